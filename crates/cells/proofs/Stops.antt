@@ -1,0 +1,37 @@
+-- What the check of a word says. Assumes nothing.
+use mathlib.Core.Path.{_≡_, refl, sym, ap, _∙_}
+use mathlib.Core.Bool.{Bool, true, false, not}
+use Prim.Native.Nat.{ℕ, _+_, _≤_}
+use native.Mathlib.Omega.{arith}
+use lib.Dec.{eqb, ltb}
+use borrow.Author.Tests.{eq-eqb, ltb-false}
+use Rattle.refusals.specs.Stop.{Stop, never, stop, stopIf, orElse}
+use Rattle.cells.specs.Cell.{kindOf, isCell, startOf, lengthOf, reachesBeyond, cellStop}
+
+module _ (used w p : ℕ) where
+  pub stop-malformed : isCell w ≡ false → cellStop used w p ≡ stop 8 p
+  unfolding cellStop
+  stop-malformed e = rw e
+
+  pub stop-beyond : isCell w ≡ true → reachesBeyond used w ≡ true → cellStop used w p ≡ stop 3 p
+  unfolding cellStop
+  stop-beyond e f = rw (e, f)
+
+  pub stop-never : isCell w ≡ true → reachesBeyond used w ≡ false → cellStop used w p ≡ never
+  unfolding cellStop
+  stop-never e f = rw (e, f)
+
+  -- a word that is not refused
+  pub never-stops : cellStop used w p ≡ never → (isCell w ≡ true) × (reachesBeyond used w ≡ false)
+  unfolding cellStop
+  never-stops h = go (isCell w) (reachesBeyond used w) h
+    where
+      go : (c b : Bool) → orElse (stopIf (not c) 8 p) (orElse (stopIf b 3 p) never) ≡ never → (c ≡ true) × (b ≡ false)
+      go true true h = absurd (let z : _≡_ {A = ℕ} 0 1 = cc in omega arith)
+      go true false h = (refl, refl)
+      go false b h = absurd (let z : _≡_ {A = ℕ} 0 1 = cc in omega arith)
+
+-- a text that does not reach beyond the mark ends at or before it
+pub ends-inside : (used w : ℕ) → kindOf w ≡ 2 → reachesBeyond used w ≡ false → startOf w + lengthOf w ≤ used
+unfolding reachesBeyond
+ends-inside used w e h = let q : ltb used (startOf w + lengthOf w) ≡ false = rw (eq-eqb (kindOf w) 2 e) at h in ltb-false _ _ q

@@ -1,0 +1,89 @@
+-- Laws of comparing two texts: from an index on, and as an order. Assumes nothing.
+use mathlib.Core.Path.{_≡_, refl, sym, ap, ap₂, _∙_}
+use mathlib.Core.List.{List, [], _∷_}
+use mathlib.Core.Bool.{Bool, true, false}
+use Prim.Native.Nat.{ℕ, zero, suc, _+_, _≤_, _<_}
+use native.Mathlib.Omega.{arith}
+use native.Mathlib.Numerals.{add-one}
+use lib.ListN.{length, drop, getD, drop-of-length-le}
+use lib.Seq.{drop-cons}
+use lib.Dec.{ltb, eqb}
+use borrow.Author.Tests.{lt-ltb, le-ltb, eq-eqb, ne-eqb, eqb-true, ltb-true, ltb-false}
+use Rattle.slices.specs.Bytes.{byBytes, byTests, sameBytes, both}
+use Rattle.slices.specs.declared.Ordering.{Ordering}
+use Rattle.slices.specs.declared.Ordering.the-variants.{Less, Equal, Greater}
+
+-- ---- from an index on
+
+abbrev pub rest : List ℕ → List ℕ → ℕ → Ordering
+rest a b i = byBytes (drop i a) (drop i b)
+
+module _ (a b : List ℕ) (i : ℕ) where
+  pub right-ends : i < length a → length b ≤ i → rest a b i ≡ Greater
+  unfolding byBytes
+  right-ends h k = rw (drop-cons a i 0 h, drop-of-length-le b k)
+
+  pub left-ends : length a ≤ i → i < length b → rest a b i ≡ Less
+  unfolding byBytes
+  left-ends h k = rw (drop-of-length-le a h, drop-cons b i 0 k)
+
+  pub both-end : length a ≤ i → length b ≤ i → rest a b i ≡ Equal
+  unfolding byBytes
+  both-end h k = rw (drop-of-length-le a h, drop-of-length-le b k)
+
+  module _ (h : i < length a) (k : i < length b) where
+    here : rest a b i ≡ byTests (ltb (getD a i 0) (getD b i 0)) (ltb (getD b i 0) (getD a i 0)) (rest a b (i + 1))
+    unfolding byBytes
+    here = rw (drop-cons a i 0 h, drop-cons b i 0 k, add-one i)
+
+    pub less-here : getD a i 0 < getD b i 0 → rest a b i ≡ Less
+    less-here l = here ∙ rw (lt-ltb _ _ l)
+
+    pub greater-here : getD b i 0 < getD a i 0 → rest a b i ≡ Greater
+    greater-here l = here ∙ rw (le-ltb (getD a i 0) (getD b i 0) (omega arith), lt-ltb _ _ l)
+
+    pub same-here : getD b i 0 ≤ getD a i 0 → getD a i 0 ≤ getD b i 0 → rest a b i ≡ rest a b (i + 1)
+    same-here l m = here ∙ rw (le-ltb (getD a i 0) (getD b i 0) l, le-ltb (getD b i 0) (getD a i 0) m)
+
+    pub differ-here : (getD a i 0 ≡ getD b i 0 → ⊥) → sameBytes (drop i a) (drop i b) ≡ false
+    unfolding sameBytes
+    differ-here n = rw (drop-cons a i 0 h, drop-cons b i 0 k, ne-eqb _ _ n)
+
+    pub agree-here : getD a i 0 ≡ getD b i 0 → sameBytes (drop i a) (drop i b) ≡ sameBytes (drop (i + 1) a) (drop (i + 1) b)
+    unfolding sameBytes
+    agree-here e = rw (drop-cons a i 0 h, drop-cons b i 0 k, eq-eqb _ _ e, add-one i)
+
+  pub all-agree : length a ≤ i → length b ≤ i → sameBytes (drop i a) (drop i b) ≡ true
+  unfolding sameBytes
+  all-agree h k = rw (drop-of-length-le a h, drop-of-length-le b k)
+
+-- ---- equal texts
+
+pub bytes-self : (l : List ℕ) → byBytes l l ≡ Equal
+unfolding byBytes
+bytes-self [] = refl
+bytes-self (a ∷ l) = rw (le-ltb a a (omega arith)) (bytes-self l)
+
+pub same-self : (l : List ℕ) → sameBytes l l ≡ true
+unfolding sameBytes
+same-self [] = refl
+same-self (a ∷ l) = rw (eq-eqb a a refl) (same-self l)
+
+pub same-eq : (a b : List ℕ) → sameBytes a b ≡ true → a ≡ b
+unfolding sameBytes
+same-eq [] [] e = refl
+same-eq [] (b ∷ t) e = absurd (let z : _≡_ {A = ℕ} 0 1 = cc in omega arith)
+same-eq (a ∷ s) [] e = absurd (let z : _≡_ {A = ℕ} 0 1 = cc in omega arith)
+same-eq (a ∷ s) (b ∷ t) e = go (eqb a b) (λ f. eqb-true a b f) (same-eq s t) e
+  where
+    go : (f : Bool) → (f ≡ true → a ≡ b) → (sameBytes s t ≡ true → s ≡ t) → both f (sameBytes s t) ≡ true → a ∷ s ≡ b ∷ t
+    go true h k e = ap₂ _∷_ (h refl) (k e)
+    go false h k e = absurd (let z : _≡_ {A = ℕ} 0 1 = cc in omega arith)
+
+-- texts of different lengths differ
+pub same-length : (a b : List ℕ) → (length a ≡ length b → ⊥) → sameBytes a b ≡ false
+same-length a b n = go (sameBytes a b) refl
+  where
+    go : (f : Bool) → sameBytes a b ≡ f → f ≡ false
+    go true e = absurd (n (ap length (same-eq a b e)))
+    go false e = refl
