@@ -4,9 +4,10 @@ use mathlib.Core.Bool.{Bool, true, false, not}
 use Prim.Native.Nat.{ℕ, _+_, _≤_}
 use native.Mathlib.Omega.{arith}
 use lib.Dec.{eqb, ltb}
-use borrow.Author.Tests.{eq-eqb, ltb-false}
+use borrow.Author.Tests.{eq-eqb, eqb-true, eqb-false, ltb-false}
 use Rattle.refusals.specs.Stop.{Stop, never, stop, stopIf, orElse}
-use Rattle.cells.specs.Cell.{kindOf, isCell, startOf, lengthOf, reachesBeyond, cellStop}
+use Rattle.cells.specs.Cell.{kindOf, isCell, startOf, lengthOf, reachesBeyond, cellStop, WellFormed, Inside, refOf}
+use Rattle.cells.proofs.Words.{ref-int, ref-str, ref-binary, ref-null}
 
 module _ (used w p : ℕ) where
   pub stop-malformed : isCell w ≡ false → cellStop used w p ≡ stop 8 p
@@ -35,3 +36,20 @@ module _ (used w p : ℕ) where
 pub ends-inside : (used w : ℕ) → kindOf w ≡ 2 → reachesBeyond used w ≡ false → startOf w + lengthOf w ≤ used
 unfolding reachesBeyond
 ends-inside used w e h = let q : ltb used (startOf w + lengthOf w) ≡ false = rw (eq-eqb (kindOf w) 2 e) at h in ltb-false _ _ q
+
+-- the cell of a well-formed word is inside
+pub well-inside : (used w : ℕ) → WellFormed used w → Inside used (refOf w)
+unfolding Inside
+well-inside used w h = go (eqb (kindOf w) 1) (eqb (kindOf w) 2) (eqb (kindOf w) 3) refl refl refl
+  where
+    go : (i s b : Bool) → eqb (kindOf w) 1 ≡ i → eqb (kindOf w) 2 ≡ s → eqb (kindOf w) 3 ≡ b → Inside used (refOf w)
+    go true s b e f g = rw (ref-int w (eqb-true (kindOf w) 1 e)) tt
+    go false true b e f g =
+        let k : kindOf w ≡ 2 = eqb-true (kindOf w) 2 f in
+        rw (ref-str w k) (ends-inside used w k (never-stops used w 0 h .1))
+    go false false true e f g = rw (ref-binary w (eqb-true (kindOf w) 3 g)) tt
+    go false false false e f g = rw (ref-null w (eqb-false (kindOf w) 1 e) (eqb-false (kindOf w) 2 f) (eqb-false (kindOf w) 3 g)) tt
+
+-- a place tells nothing of a word's form
+pub well-formed : (used w p : ℕ) → cellStop used w p ≡ never → WellFormed used w
+well-formed used w p h = let q = never-stops used w p h in stop-never used w 0 (q .0) (q .1)

@@ -6,7 +6,7 @@ use mathlib.Core.List.{[], _∷_}
 use lib.Dec.{ltb, eqb}
 use mir.Syntax.{w32}
 use mir.Val.{toZ, ofZ}
-use Rattle.refusals.specs.Stop.{Stop, stopIf, firstOf}
+use Rattle.refusals.specs.Stop.{Stop, never, stopIf, firstOf}
 use Rattle.cells.specs.declared.ValueRef.{ValueRef}
 use Rattle.cells.specs.declared.ValueRef.the-variants.{Null, Int, Str, Binary}
 
@@ -40,6 +40,10 @@ reachesBeyond used word = cond (eqb (kindOf word) 2) (ltb used (startOf word + l
 unfoldable pub cellStop : ℕ → ℕ → ℕ → Stop
 cellStop used word place = firstOf (stopIf (not (isCell word)) 8 place ∷ stopIf (reachesBeyond used word) 3 place ∷ [])
 
+-- a word that would get neither 8 nor 3
+abbrev pub WellFormed : ℕ → ℕ → Type 0
+WellFormed used word = cellStop used word 0 ≡ never
+
 -- the word of a cell
 unfoldable pub wordOf : ValueRef → ℕ
 wordOf Null = 0
@@ -52,3 +56,10 @@ unfoldable pub refOf : ℕ → ValueRef
 refOf word =
     cond (eqb (kindOf word) 1) (Int (toZ w32 (word % 2 ^ 32)))
     (cond (eqb (kindOf word) 2) (Str (startOf word) (lengthOf word)) (cond (eqb (kindOf word) 3) Binary Null))
+
+-- a cell whose text, if it is one, ends at or before the mark
+unfoldable pub Inside : ℕ → ValueRef → Type 0
+Inside used Null = Unit {0}
+Inside used (Int number) = Unit {0}
+Inside used (Str start length) = start + length ≤ used
+Inside used Binary = Unit {0}

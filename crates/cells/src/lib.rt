@@ -61,7 +61,7 @@ pub fn check_cell(word: u64, used: usize, place: usize) -> Checked
 }
 
 // The number of 32 bits in two's complement.
-fn signed(bits: u64) -> i32
+pub fn signed(bits: u64) -> i32
     requires { ⌜ bits < 2 ^ 32 ⌝ }
     ensures { λ r. ⌜ r ≡ toZ w32 bits ⌝ }
 {
@@ -88,10 +88,7 @@ impl ValueRef {
     {
         match word / 0x100_0000_0000_0000 {
             1 => ValueRef::Int(signed(word % 0x1_0000_0000)),
-            2 => ValueRef::Str(
-                (word / 65536 % 0x1_0000_0000) as u32,
-                (word % 65536) as u16,
-            ),
+            2 => ValueRef::Str((word / 65536 % 0x1_0000_0000) as u32, (word % 65536) as u16),
             3 => ValueRef::Binary,
             _ => ValueRef::Null,
         }

@@ -8,8 +8,21 @@ use Rattle.refusals.specs.Told.{Told, told}
 use Rattle.refusals.specs.Stop.{Stop, never, stop, stopOf, checkedOf}
 use Rattle.refusals.specs.declared.Refusal.{Refusal}
 use Rattle.refusals.specs.declared.Refusal.the-variants.{
-  NotACondition, TooLarge, TextOutside, NoSuchColumn, Overflow, ShiftAmount, TooLong, Malformed, OutputShort, NoRoom,
-  KeyTaken, KeyRepeated, NotValid, KeyTwice, NotPrintable
+  NotACondition,
+  TooLarge,
+  TextOutside,
+  NoSuchColumn,
+  Overflow,
+  ShiftAmount,
+  TooLong,
+  Malformed,
+  OutputShort,
+  NoRoom,
+  KeyTaken,
+  KeyRepeated,
+  NotValid,
+  KeyTwice,
+  NotPrintable,
 }
 use Rattle.refusals.specs.declared.Checked.{Checked}
 use Rattle.refusals.specs.declared.Checked.the-variants.{Sound, Refused}

@@ -2,8 +2,21 @@
 use Prim.Native.Nat.{ℕ}
 use Rattle.refusals.specs.declared.Refusal.{Refusal}
 use Rattle.refusals.specs.declared.Refusal.the-variants.{
-  NotACondition, TooLarge, TextOutside, NoSuchColumn, Overflow, ShiftAmount, TooLong, Malformed, OutputShort, NoRoom,
-  KeyTaken, KeyRepeated, NotValid, KeyTwice, NotPrintable
+  NotACondition,
+  TooLarge,
+  TextOutside,
+  NoSuchColumn,
+  Overflow,
+  ShiftAmount,
+  TooLong,
+  Malformed,
+  OutputShort,
+  NoRoom,
+  KeyTaken,
+  KeyRepeated,
+  NotValid,
+  KeyTwice,
+  NotPrintable,
 }
 
 pub record Told : Type 0 where

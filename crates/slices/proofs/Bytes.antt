@@ -4,12 +4,13 @@ use mathlib.Core.List.{List, [], _∷_}
 use mathlib.Core.Bool.{Bool, true, false}
 use Prim.Native.Nat.{ℕ, zero, suc, _+_, _≤_, _<_}
 use native.Mathlib.Omega.{arith}
+use native.Mathlib.Nat.{le-antisymm}
 use native.Mathlib.Numerals.{add-one}
 use lib.ListN.{length, drop, getD, drop-of-length-le}
 use lib.Seq.{drop-cons}
 use lib.Dec.{ltb, eqb}
 use borrow.Author.Tests.{lt-ltb, le-ltb, eq-eqb, ne-eqb, eqb-true, ltb-true, ltb-false}
-use Rattle.slices.specs.Bytes.{byBytes, byTests, sameBytes, both}
+use Rattle.slices.specs.Bytes.{byBytes, byTests, sameBytes, both, isEqual}
 use Rattle.slices.specs.declared.Ordering.{Ordering}
 use Rattle.slices.specs.declared.Ordering.the-variants.{Less, Equal, Greater}
 
@@ -64,6 +65,18 @@ unfolding byBytes
 bytes-self [] = refl
 bytes-self (a ∷ l) = rw (le-ltb a a (omega arith)) (bytes-self l)
 
+pub bytes-equal : (a b : List ℕ) → byBytes a b ≡ Equal → a ≡ b
+unfolding byBytes
+bytes-equal [] [] e = refl
+bytes-equal [] (b ∷ t) e = absurd (let z : _≡_ {A = ℕ} 0 1 = cc in omega arith)
+bytes-equal (a ∷ s) [] e = absurd (let z : _≡_ {A = ℕ} 0 1 = cc in omega arith)
+bytes-equal (a ∷ s) (b ∷ t) e = go (ltb a b) (ltb b a) (ltb-false a b) (ltb-false b a) (bytes-equal s t) e
+  where
+    go : (f g : Bool) → (f ≡ false → b ≤ a) → (g ≡ false → a ≤ b) → (byBytes s t ≡ Equal → s ≡ t) → byTests f g (byBytes s t) ≡ Equal → a ∷ s ≡ b ∷ t
+    go true g h k r e = absurd (let z : _≡_ {A = ℕ} 0 1 = cc in omega arith)
+    go false true h k r e = absurd (let z : _≡_ {A = ℕ} 0 1 = cc in omega arith)
+    go false false h k r e = ap₂ _∷_ (le-antisymm (k refl) (h refl)) (r e)
+
 pub same-self : (l : List ℕ) → sameBytes l l ≡ true
 unfolding sameBytes
 same-self [] = refl
@@ -80,10 +93,25 @@ same-eq (a ∷ s) (b ∷ t) e = go (eqb a b) (λ f. eqb-true a b f) (same-eq s t
     go true h k e = ap₂ _∷_ (h refl) (k e)
     go false h k e = absurd (let z : _≡_ {A = ℕ} 0 1 = cc in omega arith)
 
--- texts of different lengths differ
-pub same-length : (a b : List ℕ) → (length a ≡ length b → ⊥) → sameBytes a b ≡ false
-same-length a b n = go (sameBytes a b) refl
+-- texts that are not the same
+pub differ : (a b : List ℕ) → (a ≡ b → ⊥) → sameBytes a b ≡ false
+differ a b n = go (sameBytes a b) refl
   where
     go : (f : Bool) → sameBytes a b ≡ f → f ≡ false
-    go true e = absurd (n (ap length (same-eq a b e)))
+    go true e = absurd (n (same-eq a b e))
     go false e = refl
+
+pub same-length : (a b : List ℕ) → (length a ≡ length b → ⊥) → sameBytes a b ≡ false
+same-length a b n = differ a b (λ e. n (ap length e))
+
+-- two texts are the same exactly if neither comes first
+pub same-order : (a b : List ℕ) → sameBytes a b ≡ isEqual (byBytes a b)
+same-order a b = go (byBytes a b) refl
+  where
+    self : a ≡ b → byBytes a b ≡ Equal
+    self f = ap (byBytes a) (sym f) ∙ bytes-self a
+
+    go : (o : Ordering) → byBytes a b ≡ o → sameBytes a b ≡ isEqual o
+    go Less e = differ a b (λ f. let q = self f in let z : _≡_ {A = ℕ} 0 1 = cc in omega arith)
+    go Equal e = ap (sameBytes a) (sym (bytes-equal a b e)) ∙ same-self a
+    go Greater e = differ a b (λ f. let q = self f in let z : _≡_ {A = ℕ} 0 1 = cc in omega arith)

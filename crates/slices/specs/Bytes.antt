@@ -30,3 +30,9 @@ sameBytes [] [] = true
 sameBytes [] (b ∷ t) = false
 sameBytes (a ∷ s) [] = false
 sameBytes (a ∷ s) (b ∷ t) = both (eqb a b) (sameBytes s t)
+
+-- the test that an order is Equal
+abbrev pub isEqual : Ordering → Bool
+isEqual Less = false
+isEqual Equal = true
+isEqual Greater = false
