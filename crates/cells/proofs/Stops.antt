@@ -3,10 +3,14 @@ use mathlib.Core.Path.{_≡_, refl, sym, ap, _∙_}
 use mathlib.Core.Bool.{Bool, true, false, not}
 use Prim.Native.Nat.{ℕ, _+_, _≤_}
 use native.Mathlib.Omega.{arith}
+use mathlib.Core.List.{List, []}
+use lib.ListN.{length, replicate, length-replicate}
 use lib.Dec.{eqb, ltb}
 use borrow.Author.Tests.{eq-eqb, eqb-true, eqb-false, ltb-false}
 use Rattle.refusals.specs.Stop.{Stop, never, stop, stopIf, orElse}
 use Rattle.cells.specs.Cell.{kindOf, isCell, startOf, lengthOf, reachesBeyond, cellStop, WellFormed, Inside, refOf}
+use Rattle.cells.specs.declared.ValueRef.{ValueRef}
+use Rattle.cells.specs.declared.ValueRef.the-variants.{Null, Int, Str, Binary}
 use Rattle.cells.proofs.Words.{ref-int, ref-str, ref-binary, ref-null}
 
 module _ (used w p : ℕ) where
@@ -53,3 +57,15 @@ well-inside used w h = go (eqb (kindOf w) 1) (eqb (kindOf w) 2) (eqb (kindOf w) 
 -- a place tells nothing of a word's form
 pub well-formed : (used w p : ℕ) → cellStop used w p ≡ never → WellFormed used w
 well-formed used w p h = let q = never-stops used w p h in stop-never used w 0 (q .0) (q .1)
+
+-- there is a text that a cell lies inside of, so an answer that is told for every such text is told once
+some-text : (v : ValueRef) → (t : List ℕ) × Inside (length t) v
+unfolding Inside
+some-text Null = ([], tt)
+some-text (Int number) = ([], tt)
+some-text (Str start size) = (replicate (start + size) 0, rw length-replicate (omega arith))
+some-text Binary = ([], tt)
+
+pub told-once : {A : Type 0} (v : ValueRef) (f : List ℕ → A) (r s : A)
+    → ((t : List ℕ) → Inside (length t) v → r ≡ f t) → ((t : List ℕ) → Inside (length t) v → s ≡ f t) → r ≡ s
+told-once v f r s g h = let t = some-text v in g (t .0) (t .1) ∙ sym (h (t .0) (t .1))

@@ -70,10 +70,9 @@ pub fn compare_bytes(a: &[u8], b: &[u8]) -> Ordering
         i += 1;
     }
     if i < b.len() {
-        Ordering::Less
-    } else {
-        Ordering::Equal
+        return Ordering::Less;
     }
+    Ordering::Equal
 }
 
 // Whether two texts are equal: their lengths first, then byte by byte.

@@ -45,7 +45,7 @@ strs-equal t a b r e f g = rw (value-str t a e, value-str t b f) (g ∙ same-ord
 
 -- ---- different words
 
-abbrev isStr : ValueRef → Bool
+abbrev pub isStr : ValueRef → Bool
 isStr Null = false
 isStr (Int z) = false
 isStr (Str s n) = true
@@ -59,7 +59,7 @@ not-str w n = go (eqb (kindOf w) 1) (eqb (kindOf w) 3) refl refl
     go false true e f = rw (ref-binary w (eqb-true (kindOf w) 3 f))
     go false false e f = rw (ref-null w (eqb-false (kindOf w) 1 e) n (eqb-false (kindOf w) 3 f))
 
-one-ref : (t : List ℕ) (r s : ValueRef) → isStr r ≡ false → toValue t r ≡ toValue t s → r ≡ s
+pub one-ref : (t : List ℕ) (r s : ValueRef) → isStr r ≡ false → toValue t r ≡ toValue t s → r ≡ s
 unfolding toValue
 one-ref t Null Null h e = refl
 one-ref t Null (Int y) h e = absurd (let z : _≡_ {A = ℕ} 0 1 = cc in omega arith)

@@ -3,3 +3,4 @@ pub mod ByKind
 pub mod Truth
 pub mod Ordered
 pub mod ByWord
+pub mod Unique

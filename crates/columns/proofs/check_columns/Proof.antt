@@ -61,9 +61,10 @@ loop-less : tie.Need-loop-less Inv-loop μ-loop
 loop-less c = search needs
 
 loop-again : tie.Need-loop-again Inv-loop μ-loop
-loop-again c =
-    (search needs,
-     c .before .before .before .before .before .before .loop .inv .1 ∙ columns-turn _ _ _ _ (c .before .before .before .before .before .loop-test .taken) ∙ sound-first _ _ _ (c .enum-told .given .1) (c .before .before .check-column .ensures) ∙ (rw add-assoc))
+loop-again c = (
+  search needs,
+  c .before .before .before .before .before .before .loop .inv .1 ∙ columns-turn _ _ _ _ (c .before .before .before .before .before .loop-test .taken) ∙ sound-first _ _ _ (c .enum-told .given .1) (c .before .before .check-column .ensures) ∙ (rw add-assoc),
+)
 
 returns-2 : tie.Need-returns-2 Inv-loop μ-loop
 returns-2 c = sym (c .before .loop .inv .1 ∙ columns-end _ _ _ _ (c .loop-test .left))
