@@ -86,11 +86,11 @@ module _ (b : ℕ) (h : b < 2 ^ 32) where
     pub lowered-fits : SFits w64 (toZ w64 b -ℤ pos 4294967296)
     lowered-fits = rw lowered (record { sfits = omega (arith, small) })
 
-    lowered-is : toZ w64 (ofZ w64 (toZ w64 b -ℤ pos 4294967296)) ≡ toZ w32 b
-    lowered-is = toZ-ofZ lowered-fits ∙ lowered
+    pub lowered-wide : toZ w64 (ofZ w64 (toZ w64 b -ℤ pos 4294967296)) ≡ toZ w32 b
+    lowered-wide = toZ-ofZ lowered-fits ∙ lowered
 
     pub lowered-cast : SFits w32 (toZ w64 (ofZ w64 (toZ w64 b -ℤ pos 4294967296)))
-    lowered-cast = rw lowered-is (record { sfits = small })
+    lowered-cast = rw lowered-wide (record { sfits = small })
 
     pub lowered-held : toZ w32 (ofZ w32 (toZ w64 (ofZ w64 (toZ w64 b -ℤ pos 4294967296)))) ≡ toZ w32 b
-    lowered-held = toZ-ofZ lowered-cast ∙ lowered-is
+    lowered-held = toZ-ofZ lowered-cast ∙ lowered-wide

@@ -72,7 +72,7 @@ pub fn signed(bits: u64) -> i32
 }
 
 // The 32 bits of a number in two's complement.
-fn bits(number: i32) -> u64
+pub fn bits(number: i32) -> u64
     ensures { λ r. ⌜ r ≡ ofZ w32 number ⌝ }
 {
     if number < 0 {

@@ -1,0 +1,22 @@
+-- Two answers that tell the same are the same, so every contract of this crate has one result. Assumes nothing.
+use mathlib.Core.Path.{_≡_, refl, sym, ap, _∙_}
+use mathlib.Core.Bool.{cond}
+use Prim.Native.Nat.{ℕ}
+use lib.Dec.{eqb}
+use Rattle.integers.specs.Outcome.{Reply, gave, refused, replyOf}
+use Rattle.integers.specs.declared.Answer.{Answer}
+use Rattle.integers.specs.declared.Answer.the-variants.{Gave, Overflow, ShiftAmount, TooLong}
+
+answer : Reply → Answer
+answer (gave word top) = Gave word top
+answer (Reply.refused n) = cond (eqb n 5) Overflow (cond (eqb n 6) ShiftAmount TooLong)
+
+back : (a : Answer) → answer (replyOf a) ≡ a
+unfolding answer
+back (Gave word top) = refl
+back Overflow = refl
+back ShiftAmount = refl
+back TooLong = refl
+
+pub one-answer : (a b : Answer) → replyOf a ≡ replyOf b → a ≡ b
+one-answer a b e = sym (back a) ∙ ap answer e ∙ back b

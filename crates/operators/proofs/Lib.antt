@@ -1,0 +1,4 @@
+-- What the proofs of several functions use, here and above.
+pub mod ByKind
+pub mod Joining
+pub mod Unique
