@@ -144,6 +144,7 @@ unary-other R op v h k e = go (eqb op 16) refl
     nothing f (int x) e = no e
     nothing f (str a) e = refl
     nothing f binary e = refl
+
     go : (t : Bool) → eqb op 16 ≡ t → unaryOf R op v ≡ value null
     go true f = rw f (nothing negated v e)
     go false f = let n = eqb-false op 16 f in let g : op ≡ 17 = omega arith in rw g (nothing inverted v e)

@@ -28,10 +28,10 @@ returns : tie.Need-returns
 unfolding unaryOf
 returns c =
     λ t h.
-      let r = c .before .before .from-word .ensures in
-      let i : Inside (length t) (c .before .before .from-word .result) = rw r (well-inside _ _ h) in
-      let e = c .before .to-bool .ensures t i ∙ ap (λ v. toBool (toValue t v)) r in
-      rw (c .before .before .before .if1 .taken) (c .flag .ensures (c .before .before .before .before .args .top) ∙ ap (λ b. placed (c .before .before .before .before .args .top) (value (fromBool (not b)))) e)
+    let r = c .before .before .from-word .ensures in
+    let i : Inside (length t) (c .before .before .from-word .result) = rw r (well-inside _ _ h) in
+    let e = c .before .to-bool .ensures t i ∙ ap (λ v. toBool (toValue t v)) r in
+    rw (c .before .before .before .if1 .taken) (c .flag .ensures (c .before .before .before .before .args .top) ∙ ap (λ b. placed (c .before .before .before .before .args .top) (value (fromBool (not b)))) e)
 
 negate-requires : tie.Need-negate-requires
 negate-requires c κs = search needs
@@ -47,14 +47,14 @@ returns-3 : tie.Need-returns-3
 unfolding unaryOf
 returns-3 c =
     λ t h.
-      let e : c .before .before .before .before .args .op ≡ 17 = omega arith in
-      rw (e, value-int t (c .before .before .before .before .args .a) (c .before .before .if2 .taken)) (c .invert .ensures)
+    let e : c .before .before .before .before .args .op ≡ 17 = omega arith in
+    rw (e, value-int t (c .before .before .before .before .args .a) (c .before .before .if2 .taken)) (c .invert .ensures)
 
 returns-4 : tie.Need-returns-4
 returns-4 c =
     λ t h.
-      let n = c .before .if1 .left in
-      sym (ap (placed (c .before .before .args .top)) (unary-other (c .before .before .args .rules) (c .before .before .args .op) (valueOf t (c .before .before .args .a)) (c .before .before .pre .0) (omega arith) (not-int t (c .before .before .args .a) (c .if2 .left))) ∙ placed-null (c .before .before .args .top))
+    let n = c .before .if1 .left in
+    sym (ap (placed (c .before .before .args .top)) (unary-other (c .before .before .args .rules) (c .before .before .args .op) (valueOf t (c .before .before .args .a)) (c .before .before .pre .0) (omega arith) (not-int t (c .before .before .args .a) (c .if2 .left))) ∙ placed-null (c .before .before .args .top))
 
 pub unary-spec : {M : Type 1} → statement M
 unary-spec =
