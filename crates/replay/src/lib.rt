@@ -1,0 +1,157 @@
+// Reading recorded cases (docs/CASES.md). A part that is missing reads as 0 or empty, so that a damaged case differs and does no harm.
+ghost use mathlib.Core.Path.{_≡_};
+ghost use Prim.Native.Nat.{_+_, _*_, _≤_, _<_, _^_};
+ghost use lib.ListN.{length, getD};
+ghost use Rattle.replay.specs.Number.{Four, Read, eightAt};
+use libc::STDIN_FILENO;
+use libc::STDOUT_FILENO;
+
+// A slice of a case: its first byte, how many elements it has, and where the next part starts.
+pub struct Field {
+    pub start: usize,
+    pub count: usize,
+    pub next: usize,
+}
+
+// The numbers of an answer.
+pub struct Expected {
+    pub number: u64,
+    pub place: u64,
+    pub value: u64,
+    pub used: u64,
+}
+
+fn byte(case: &[u8], at: usize) -> u64
+    ensures { λ r. ⌜ (r ≡ getD (now (case .entry)) at 0) × (r < 256) ⌝ }
+{
+    if at < case.len() {
+        return case[at] as u64;
+    }
+    0
+}
+
+// The number of 4 bytes at a place.
+pub fn four(case: &[u8], at: usize) -> u64
+    requires { ⌜ at ≤ length (now case) + 64 ⌝ }
+    ensures { λ r. ⌜ Four (now (case .entry)) at r ⌝ }
+{
+    let low = byte(case, at) + byte(case, at + 1) * 256;
+    let high = byte(case, at + 2) + byte(case, at + 3) * 256;
+    low + high * 65536
+}
+
+// A place so many bytes later, or the end.
+pub fn after(case: &[u8], at: usize, size: usize) -> usize
+    requires { ⌜ at ≤ length (now case) ⌝ }
+    ensures { λ r. ⌜ r ≤ length (now (case .entry)) ⌝ }
+{
+    if size <= case.len() - at {
+        at + size
+    } else {
+        case.len()
+    }
+}
+
+// The number of 8 bytes at a place.
+pub fn eight(case: &[u8], at: usize) -> u64
+    requires { ⌜ at ≤ length (now case) + 32 ⌝ }
+    ensures { λ r. ⌜ r ≡ eightAt (now (case .entry)) at ⌝ }
+{
+    let low = four(case, at);
+    let high = four(case, at + 4);
+    low + high * 0x1_0000_0000
+}
+
+// The slice of bytes at a place.
+pub fn bytes(case: &[u8], at: usize) -> Field
+    requires { ⌜ at ≤ length (now case) ⌝ }
+    ensures { λ r. ⌜ (r .start + r .count ≤ length (now (case .entry))) × (r .next ≤ length (now (case .entry))) ⌝ }
+{
+    let said = four(case, at) as usize;
+    let start = after(case, at, 4);
+    let left = case.len() - start;
+    if said <= left {
+        return Field {
+            start,
+            count: said,
+            next: start + said,
+        };
+    }
+    Field {
+        start,
+        count: left,
+        next: case.len(),
+    }
+}
+
+// The slice of words at a place, put at the start of words; more than it holds are passed over.
+pub fn words(case: &[u8], at: usize, words: &mut [u64]) -> Field
+    requires { ⌜ at ≤ length (now case) ⌝ }
+    ensures { λ r. ⌜ (r .count ≤ length (now (words .exit))) × (r .next ≤ length (now (case .entry))) × (length (now (words .exit)) ≡ length (now (words .entry))) ⌝ }
+{
+    let said = four(case, at) as usize;
+    let mut place = after(case, at, 4);
+    let start = place;
+    let mut i: usize = 0;
+    while i < said {
+        if words.len() <= i {
+            return Field {
+                start,
+                count: words.len(),
+                next: place,
+            };
+        }
+        words[i] = eight(case, place);
+        place = after(case, place, 8);
+        i += 1;
+    }
+    Field {
+        start,
+        count: i,
+        next: place,
+    }
+}
+
+// The numbers of the answer at a place.
+pub fn answer(case: &[u8], at: usize) -> Expected
+    requires { ⌜ at ≤ length (now case) ⌝ }
+    ensures { λ r. ⌜ Read (now (case .entry)) at r ⌝ }
+{
+    Expected {
+        number: eight(case, at),
+        place: eight(case, at + 8),
+        value: eight(case, at + 16),
+        used: eight(case, at + 24),
+    }
+}
+
+// Reads the next case from standard input into the start of space, and answers its length, or 0 at the end.
+pub fn next_case(space: &mut [u8]) -> usize
+    ensures { λ r. ⌜ (r ≤ length (now (space .exit))) × (length (now (space .exit)) ≡ length (now (space .entry))) ⌝ }
+{
+    let mut head = [0u8; 4];
+    if io::read_full(STDIN_FILENO, &mut head) < 4 {
+        return 0;
+    }
+    let size = four(&head, 0) as usize;
+    if space.len() < size {
+        return 0;
+    }
+    let got = io::read_full(STDIN_FILENO, &mut space[..size]);
+    if got == size { size } else { 0 }
+}
+
+// `N cases, M differ`
+pub fn report(cases: u64, differ: u64) {
+    io::print_decimal(STDOUT_FILENO, cases);
+    io::write_all(STDOUT_FILENO, b" cases, ");
+    io::print_decimal(STDOUT_FILENO, differ);
+    io::write_all(STDOUT_FILENO, b" differ\n");
+}
+
+// `case N differs`
+pub fn tell(case: u64) {
+    io::write_all(STDOUT_FILENO, b"case ");
+    io::print_decimal(STDOUT_FILENO, case);
+    io::write_all(STDOUT_FILENO, b" differs\n");
+}
