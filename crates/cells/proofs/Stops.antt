@@ -1,17 +1,20 @@
 -- What the check of a word says. Assumes nothing.
 use mathlib.Core.Path.{_≡_, refl, sym, ap, _∙_}
 use mathlib.Core.Bool.{Bool, true, false, not}
-use Prim.Native.Nat.{ℕ, _+_, _≤_}
+use Prim.Native.Nat.{ℕ, _+_, _*_, _^_, _/_, _%_, _≤_, _<_}
 use native.Mathlib.Omega.{arith}
 use mathlib.Core.List.{List, []}
 use lib.ListN.{length, replicate, length-replicate}
 use lib.Dec.{eqb, ltb}
-use borrow.Author.Tests.{eq-eqb, eqb-true, eqb-false, ltb-false}
+use borrow.Author.Tests.{eq-eqb, ne-eqb, eqb-true, eqb-false, lt-ltb, le-ltb, ltb-false}
 use Rattle.refusals.specs.Stop.{Stop, never, stop, stopIf, orElse}
-use Rattle.cells.specs.Cell.{kindOf, isCell, startOf, lengthOf, reachesBeyond, cellStop, WellFormed, Inside, refOf}
+use Rattle.cells.specs.Cell.{kindOf, bodyOf, bodiesOf, isCell, startOf, lengthOf, reachesBeyond, cellStop, WellFormed, Inside, refOf, wordOf}
+use mir.Syntax.{w32}
+use mir.Val.{ofZ}
+use mir.Facts.{fits-ofZ}
 use Rattle.cells.specs.declared.ValueRef.{ValueRef}
 use Rattle.cells.specs.declared.ValueRef.the-variants.{Null, Int, Str, Binary}
-use Rattle.cells.proofs.Words.{ref-int, ref-str, ref-binary, ref-null}
+use Rattle.cells.proofs.Words.{ref-int, ref-str, ref-binary, ref-null, Sized}
 
 module _ (used w p : ℕ) where
   pub stop-malformed : isCell w ≡ false → cellStop used w p ≡ stop 8 p
@@ -54,6 +57,20 @@ well-inside used w h = go (eqb (kindOf w) 1) (eqb (kindOf w) 2) (eqb (kindOf w) 
     go false false true e f g = rw (ref-binary w (eqb-true (kindOf w) 3 g)) tt
     go false false false e f g = rw (ref-null w (eqb-false (kindOf w) 1 e) (eqb-false (kindOf w) 2 f) (eqb-false (kindOf w) 3 g)) tt
 
+-- a word of a kind that has enough bodies
+cell-by : (w k m : ℕ) → kindOf w ≡ k → bodiesOf k ≡ m → bodyOf w < m → isCell w ≡ true
+unfolding isCell
+cell-by w k m e f h = lt-ltb (bodyOf w) (bodiesOf (kindOf w)) (rw (e, f) h)
+
+-- a word of another kind than text reaches nowhere, and a text that ends at the mark or before not beyond it
+text-by : (used w k : ℕ) → kindOf w ≡ k → (k ≡ 2 → ⊥) → reachesBeyond used w ≡ false
+unfolding reachesBeyond
+text-by used w k e n = rw (e, ne-eqb k 2 n)
+
+inside-by : (used w : ℕ) → kindOf w ≡ 2 → startOf w + lengthOf w ≤ used → reachesBeyond used w ≡ false
+unfolding reachesBeyond
+inside-by used w e h = rw (eq-eqb (kindOf w) 2 e) (le-ltb used (startOf w + lengthOf w) h)
+
 -- a place tells nothing of a word's form
 pub well-formed : (used w p : ℕ) → cellStop used w p ≡ never → WellFormed used w
 well-formed used w p h = let q = never-stops used w p h in stop-never used w 0 (q .0) (q .1)
@@ -69,3 +86,27 @@ some-text Binary = ([], tt)
 pub told-once : {A : Type 0} (v : ValueRef) (f : List ℕ → A) (r s : A)
     → ((t : List ℕ) → Inside (length t) v → r ≡ f t) → ((t : List ℕ) → Inside (length t) v → s ≡ f t) → r ≡ s
 told-once v f r s g h = let t = some-text v in g (t .0) (t .1) ∙ sym (h (t .0) (t .1))
+
+-- the word of a cell whose parts have the code's sizes and whose text lies inside is well formed
+pub well-word : (used : ℕ) (r : ValueRef) → Sized r → Inside used r → WellFormed used (wordOf r)
+unfolding Inside Sized wordOf bodiesOf
+well-word used Null s h = stop-never used 0 0 (cell-by 0 0 1 refl refl (omega arith)) (text-by used 0 0 refl (λ e. omega arith))
+well-word used (Int z) s h =
+    let b : ofZ w32 z < 2 ^ 32 = fits-ofZ s .fits in
+    let k : (1 * 2 ^ 56 + ofZ w32 z) / 2 ^ 56 ≡ 1 = omega arith in
+    stop-never used _ 0 (cell-by (1 * 2 ^ 56 + ofZ w32 z) 1 (2 ^ 32) k refl (omega arith)) (text-by used (1 * 2 ^ 56 + ofZ w32 z) 1 k (λ e. omega arith))
+well-word used (Str start size) s h =
+    let k : (2 * 2 ^ 56 + (start * 65536 + size)) / 2 ^ 56 ≡ 2 = omega (arith, s .0, s .1) in
+    let a : (2 * 2 ^ 56 + (start * 65536 + size)) / 65536 % 2 ^ 32 ≡ start = omega (arith, s .0, s .1) in
+    let l : (2 * 2 ^ 56 + (start * 65536 + size)) % 65536 ≡ size = omega (arith, s .0, s .1) in
+    stop-never used _ 0 (cell-by (2 * 2 ^ 56 + (start * 65536 + size)) 2 (2 ^ 48) k refl (omega (arith, s .0, s .1)))
+    (inside-by used (2 * 2 ^ 56 + (start * 65536 + size)) k (rw (a, l) h))
+well-word used Binary s h = stop-never used (3 * 2 ^ 56) 0 (cell-by (3 * 2 ^ 56) 3 1 refl refl (omega arith)) (text-by used (3 * 2 ^ 56) 3 refl (λ e. omega arith))
+
+-- a word that is well formed below a mark is so below a higher one
+pub inside-more : (m n w : ℕ) → m ≤ n → WellFormed m w → WellFormed n w
+inside-more m n w l h = let q = never-stops m w 0 h in stop-never n w 0 (q .0) (go (eqb (kindOf w) 2) refl (q .1))
+  where
+    go : (t : Bool) → eqb (kindOf w) 2 ≡ t → reachesBeyond m w ≡ false → reachesBeyond n w ≡ false
+    go true e f = let k = eqb-true (kindOf w) 2 e in inside-by n w k (omega (arith, ends-inside m w k f))
+    go false e f = text-by n w (kindOf w) refl (eqb-false (kindOf w) 2 e)

@@ -97,7 +97,7 @@ module _ (w : ℕ) (h : isCell w ≡ true) where
           rw (ref-null w i s b) (sym (null-word (four-kinds i s b)))
 
 -- a cell is the cell of its word, where its parts have the sizes that the code gives them
-pub Sized : ValueRef → Type 0
+unfoldable pub Sized : ValueRef → Type 0
 Sized Null = Unit {0}
 Sized (Int number) = SFits w32 number
 Sized (Str start length) = (start < 2 ^ 32) × (length < 65536)

@@ -186,10 +186,21 @@ module _ (t : List ℕ) (top : ℕ) where
       (plain-cond (eqb op 45) (plain-cond (isAmount y) (plain-int _) (plain-refused 6))
       (plain-cond (eqb op 46) (plain-cond (isAmount y) (plain-int _) (plain-refused 6)) plain-null))))))))
 
-  plain-flag : (b : Bool) → Plain t top (value (fromBool b))
+  pub plain-flag : (b : Bool) → Plain t top (value (fromBool b))
   unfolding fromBool
   plain-flag true = plain-int (pos 1)
   plain-flag false = plain-int (pos 0)
+
+  plain-on-int : (f : ℤ → Outcome) → ((z : ℤ) → Plain t top (f z)) → (v : Value) → Plain t top (onInt f v)
+  plain-on-int f g null = plain-null
+  plain-on-int f g (int x) = g x
+  plain-on-int f g (str a) = plain-null
+  plain-on-int f g binary = plain-null
+
+  pub plain-unary : (R : Rules) (op : ℕ) (v : Value) → Plain t top (unaryOf R op v)
+  unfolding unaryOf
+  plain-unary R op v =
+      plain-cond (eqb op 16) (plain-on-int negated (λ z. plain-fitted _) v) (plain-cond (eqb op 17) (plain-on-int inverted (λ z. plain-int _) v) (plain-flag _))
 
   -- ---- whole results
 

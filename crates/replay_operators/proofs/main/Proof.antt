@@ -45,11 +45,12 @@ loop-less : tie.Need-loop-less Inv-loop μ-loop
 loop-less c = omega (arith, c .before .before .before .before .before .before .before .before .before .before .loop-test .taken)
 
 loop-again : tie.Need-loop-again Inv-loop μ-loop
-loop-again c =
-    (omega (arith, c .before .before .before .before .before .before .before .before .before .before .loop-test .taken),
-     omega (arith, c .before .before .difference .ensures .0, c .before .before .before .before .before .before .before .before .before .before .before .loop .inv .1),
-     c .before .before .before .before .before .before .before .before .next-case .ensures .1 ∙ c .before .before .before .before .before .before .before .before .before .before .before .loop .inv .2,
-     c .before .before .difference .ensures .1 ∙ c .before .before .before .before .before .before .before .before .before .before .before .loop .inv .3)
+loop-again c = (
+  omega (arith, c .before .before .before .before .before .before .before .before .before .before .loop-test .taken),
+  omega (arith, c .before .before .difference .ensures .0, c .before .before .before .before .before .before .before .before .before .before .before .loop .inv .1),
+  c .before .before .before .before .before .before .before .before .next-case .ensures .1 ∙ c .before .before .before .before .before .before .before .before .before .before .before .loop .inv .2,
+  c .before .before .difference .ensures .1 ∙ c .before .before .before .before .before .before .before .before .before .before .before .loop .inv .3,
+)
 
 report-requires : tie.Need-report-requires Inv-loop μ-loop
 report-requires c κs = search needs

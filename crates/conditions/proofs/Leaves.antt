@@ -1,0 +1,49 @@
+-- Leaves: a column's cell, or the literal's own. Assumes nothing.
+use mathlib.Core.Path.{_≡_, refl, sym, ap, _∙_}
+use mathlib.Core.List.{List}
+use Prim.Native.Nat.{ℕ, _^_, _/_, _%_, _<_}
+use native.Mathlib.Omega.{arith}
+use lib.ListN.{length, getD, List·getD-map}
+use borrow.Author.Tests.{eq-eqb, ne-eqb, lt-ltb}
+use Rattle.cells.specs.Cell.{WellFormed, refOf}
+use Rattle.cells.proofs.Words.{ref-null}
+use Rattle.values.specs.Value.{Value, null, toValue, valueOf}
+use Rattle.integers.specs.Outcome.{value}
+use Rattle.conditions.specs.Ast.{eval}
+use Rattle.conditions.specs.Table.{nodeOf, leafOf, LeafSound, rowOf, RowSound, LeafIs}
+use Rattle.conditions.specs.declared.Node.the-variants.{Leaf}
+
+null-word : (base : List ℕ) → valueOf base 0 ≡ null
+unfolding toValue
+null-word base = rw (ref-null 0 (λ e. omega arith) (λ e. omega arith) (λ e. omega arith))
+
+row-at : (base row : List ℕ) (c : ℕ) → getD (rowOf base row) c null ≡ valueOf base (getD row c 0)
+unfolding rowOf
+row-at base row c = ap (getD (rowOf base row) c) (sym (null-word base)) ∙ List·getD-map (λ (w : ℕ). valueOf base w) row c 0
+
+pub column-below : (used n w : ℕ) → w / 2 ^ 56 ≡ 4 → LeafSound used n w → w % 2 ^ 56 < n
+unfolding LeafSound
+column-below used n w e s = rw (eq-eqb (w / 2 ^ 56) 4 e) at s
+
+pub leaf-column : (used w : ℕ) (row : List ℕ) (r : ℕ) → w / 2 ^ 56 ≡ 4 → LeafSound used (length row) w → RowSound used row → r ≡ getD row (w % 2 ^ 56) 0 → LeafIs used w row r
+unfolding eval leafOf
+leaf-column used w row r e s rs q =
+    record {
+      exact = rw (eq-eqb (w / 2 ^ 56) 4 e) q;
+      means = λ R base. rw (eq-eqb (w / 2 ^ 56) 4 e, q) (ap value (row-at base row (w % 2 ^ 56)));
+      within = rw q (rs .cells (w % 2 ^ 56) (column-below used (length row) w e s));
+    }
+
+pub leaf-literal : (used w : ℕ) (row : List ℕ) (r : ℕ) → (w / 2 ^ 56 ≡ 4 → ⊥) → LeafSound used (length row) w → r ≡ w → LeafIs used w row r
+unfolding eval leafOf LeafSound
+leaf-literal used w row r e s q =
+    record {
+      exact = rw (ne-eqb (w / 2 ^ 56) 4 e) q;
+      means = λ R base. rw (ne-eqb (w / 2 ^ 56) 4 e, q);
+      within = rw q (rw (ne-eqb (w / 2 ^ 56) 4 e) at s);
+    }
+
+-- a word below kind 16 is a leaf
+pub leaf-node : (w : ℕ) → w < 1152921504606846976 → nodeOf w ≡ Leaf w
+unfolding nodeOf
+leaf-node w h = rw (lt-ltb (w / 2 ^ 56) 16 (omega arith))

@@ -1,0 +1,5 @@
+-- What the proofs of several functions use, here and above.
+pub mod Giving
+pub mod Leaves
+pub mod Deciding
+pub mod Walk

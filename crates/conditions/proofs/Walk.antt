@@ -1,0 +1,222 @@
+-- The laws of a walk down the table of nodes: what a sound tree asks of its operands, and how the operands' answers make the answer.
+-- None of them looks into `unaryOf` or `binaryOf`. Assumes nothing.
+use mathlib.Core.Path.{_≡_, refl, sym, ap, subst, _∙_}
+use mathlib.Core.List.{List, [], _∷_}
+use mathlib.Core.Bool.{Bool, true, false, cond}
+use Prim.Native.Nat.{ℕ, zero, suc, _+_, _-_, _*_, _≤_, _<_}
+use native.Mathlib.Omega.{arith}
+use native.Mathlib.Numerals.{sub-one}
+use lib.ListN.{length, take, getD}
+use lib.Seq.{length-take-le}
+use denote.Enum.Declared.{tagOf}
+use types.Run.{OneOf}
+use Rattle.cells.specs.Cell.{WellFormed}
+use Rattle.values.specs.Value.{Value, valueOf, toBool, fromBool}
+use Rattle.integers.specs.Outcome.{Outcome, value, gave, replyOf, placed}
+use Rattle.integers.specs.declared.Answer.{Answer}
+use Rattle.integers.specs.declared.Answer.the-variants.{Gave}
+use Rattle.integers.proofs.Answer.{the-type}
+use Rattle.operators.specs.Operator.{unaryOf, Applied, Room}
+use Rattle.operators.specs.declared.Rules.{Rules}
+use Rattle.operators.proofs.ByKind.{plain-unary, plain-flag}
+use Rattle.operators.proofs.Holding.{holds-unary, holds-truth, value-int32}
+use Rattle.conditions.specs.Ast.{Ast, literal, column, unary, binary, joins, eval, decides, twoSided, andThen}
+use Rattle.conditions.specs.Table.{nodeOf, leafOf, grow, treeOf, LeafSound, SoundAt, Sound, rowOf, RowSound, Asks, Says, Gives, Answers, LeafIs}
+use Rattle.conditions.specs.declared.Node.the-variants.{Leaf, One, Two}
+use Rattle.conditions.proofs.Giving.{handed-on, says-more, kept-trans, applied-gives, well-more, value-more}
+use Rattle.conditions.proofs.Deciding.{holds-two-sided}
+
+-- one step down
+sound-step : (u w d : ℕ) (nodes : List ℕ) (k : ℕ) → Sound u w d nodes k
+    → (0 < d) × (k < length nodes) × SoundAt u w (nodeOf (getD nodes k 0)) (Sound u w (d - 1) nodes) k
+unfolding Sound
+sound-step u w zero nodes k s = absurd s
+sound-step u w (suc d) nodes k s = (omega arith, s .0, rw (sub-one (suc d)) (s .1))
+
+tree-step : (base : List ℕ) (d : ℕ) (nodes : List ℕ) (k : ℕ) → 0 < d → treeOf base d nodes k ≡ grow base (nodeOf (getD nodes k 0)) (treeOf base (d - 1) nodes) k
+unfolding treeOf
+tree-step base zero nodes k h = absurd (omega arith)
+tree-step base (suc d) nodes k h = rw (sub-one (suc d))
+
+-- the answer of a tree read in `base`
+abbrev AnswersIn : (R : Rules) (base : List ℕ) (top d k : ℕ) (nodes row before after : List ℕ) → Answer → Type 0
+AnswersIn R base top d k nodes row before after r =
+    Gives before after top (1024 * joins (treeOf base d nodes k)) r (eval R (rowOf base row) (treeOf base d nodes k))
+
+-- an answer that is no value
+abbrev Refusing : Answer → Type 0
+Refusing r = OneOf (1 ∷ 2 ∷ 3 ∷ []) (tagOf the-type r)
+
+module _ (R : Rules) (used top d k : ℕ) (nodes row text : List ℕ) (A : Asks R used top d k nodes row text) where
+  pub in-table : k < length nodes
+  in-table = sound-step _ _ _ _ _ (A .sound) .1
+
+  pub deep : 0 < d
+  deep = sound-step _ _ _ _ _ (A .sound) .0
+
+  abbrev base : List ℕ
+  base = take used text
+
+  -- the text at the mark, after a call that kept what lay below the top
+  base-kept : (after : List ℕ) → take top after ≡ take top text → take used after ≡ base
+  base-kept after e = kept-trans text text after used top (A .marks) refl e
+
+  step : SoundAt used (length row) (nodeOf (getD nodes k 0)) (Sound used (length row) (d - 1) nodes) k
+  step = sound-step _ _ _ _ _ (A .sound) .2
+
+  pub leaf-sound : (w : ℕ) → nodeOf (getD nodes k 0) ≡ Leaf w → LeafSound used (length row) w × RowSound used row
+  leaf-sound w e = ((rw e at step), A .rows)
+
+  pub leaf-answers : (w : ℕ) (c : ℕ) → nodeOf (getD nodes k 0) ≡ Leaf w → LeafIs used w row c → Answers R used top d k nodes row text text (Gave c top)
+  leaf-answers w c e l =
+      let q : treeOf base d nodes k ≡ leafOf base w = tree-step base d nodes k deep ∙ rw e in
+      record {
+        kept = refl;
+        says = (
+          ap (eval R (rowOf base row)) q ∙ l .means R base ∙ ap value (sym (value-more used top text text c (A .marks) (l .within) refl)),
+          well-more used top c (A .marks) (l .within),
+          omega arith,
+          omega arith,
+        );
+      }
+
+  module _ (op : ℕ) (e : nodeOf (getD nodes k 0) ≡ One op) where
+    at-one : ((16 ≤ op) × (op < 19)) × (0 < k) × Sound used (length row) (d - 1) nodes (k - 1)
+    at-one = rw e at step
+
+    pub one-known : (16 ≤ op) × (op < 19)
+    one-known = at-one .0
+
+    pub one-below : 0 < k
+    one-below = at-one .1
+
+    one-tree : (b : List ℕ) → treeOf b d nodes k ≡ unary op (treeOf b (d - 1) nodes (k - 1))
+    one-tree b = tree-step b d nodes k deep ∙ rw e
+
+    pub one-asks : Asks R used top (d - 1) (k - 1) nodes row text
+    unfolding joins
+    one-asks = record { marks = A .marks; short = A .short; small = A .small; sound = at-one .2; rows = A .rows; room = rw (one-tree base) at (A .room) }
+
+    pub one-refused : (after : List ℕ) (r : Answer) → Refusing r → Answers R used top (d - 1) (k - 1) nodes row text after r → Answers R used top d k nodes row text after r
+    unfolding eval
+    one-refused after r q g = record { kept = g .kept; says = rw (one-tree base) (handed-on after top _ top _ r _ _ q (g .says)) }
+
+    pub one-answers : (after : List ℕ) (v t : ℕ) (r : Answer) → Answers R used top (d - 1) (k - 1) nodes row text after (Gave v t)
+        → ((x : List ℕ) → WellFormed (length x) v → replyOf r ≡ placed t (unaryOf R op (valueOf x v))) → length after ≡ length text
+        → Answers R used top d k nodes row text after r
+    unfolding eval joins
+    one-answers after v t r g f h =
+        let m : top + 1024 * joins (treeOf base (d - 1) nodes (k - 1)) ≤ length text = rw (one-tree base) at (A .room) in
+        let i : t ≤ length after = omega (arith, g .says .3) in
+        let x : WellFormed (length (take t after)) v = subst (λ n. WellFormed n v) (sym (length-take-le t after i)) (g .says .1) in
+        let y : Applied after after t r (unaryOf R op (valueOf (take t after) v)) =
+        record { reply = f (take t after) x; text = sym (plain-unary after t R op (valueOf (take t after) v) .same) } in
+        let z = applied-gives after after t 0 0 i (rw h (A .small)) (omega arith) (omega arith) r _ (holds-unary 0 R op _) y in
+        record { kept = g .kept; says = rw (one-tree base, g .says .0) (says-more after top t 0 _ r _ (g .says .2) (omega (arith, g .says .3)) (z .says)) }
+
+  module _ (op l : ℕ) (e : nodeOf (getD nodes k 0) ≡ Two op l) where
+    at-two : ((32 ≤ op) × (op < 50)) × (l < k) × Sound used (length row) (d - 1) nodes l × Sound used (length row) (d - 1) nodes (k - 1)
+    at-two = rw e at step
+
+    pub two-known : (32 ≤ op) × (op < 50)
+    two-known = at-two .0
+
+    pub two-below : 0 < k
+    two-below = omega (arith, at-two .1)
+
+    two-tree : (b : List ℕ) → treeOf b d nodes k ≡ binary op (treeOf b (d - 1) nodes l) (treeOf b (d - 1) nodes (k - 1))
+    two-tree b = tree-step b d nodes k deep ∙ rw e
+
+    two-room : top + 1024 * (joins (treeOf base (d - 1) nodes l) + joins (treeOf base (d - 1) nodes (k - 1)) + 1) ≤ length text
+    unfolding joins
+    two-room = rw (two-tree base) at (A .room)
+
+    pub left-asks : Asks R used top (d - 1) l nodes row text
+    left-asks = record { marks = A .marks; short = A .short; small = A .small; sound = at-two .2; rows = A .rows; room = omega (arith, two-room) }
+
+    pub left-refused : (after : List ℕ) (r : Answer) → Refusing r → Answers R used top (d - 1) l nodes row text after r → Answers R used top d k nodes row text after r
+    unfolding eval
+    left-refused after r q g = record { kept = g .kept; says = rw (two-tree base) (handed-on after top _ top _ r _ _ q (g .says)) }
+
+    -- the left operand has a value
+    module _ (after : List ℕ) (v t : ℕ) (g : Answers R used top (d - 1) l nodes row text after (Gave v t)) (h : length after ≡ length text) where
+      left-long : t ≤ length after
+      left-long = omega (arith, two-room, g .says .3)
+
+      -- v in the text up to t, whose length is t
+      left-within : WellFormed (length (take t after)) v
+      left-within = subst (λ n. WellFormed n v) (sym (length-take-le t after left-long)) (g .says .1)
+
+      module _ (b : Bool) (dec : (x : List ℕ) → WellFormed (length x) v → b ≡ decides op (valueOf x v)) where
+        pub left-decided : (c : ℕ) (y : Bool) → b ≡ true → ((x : List ℕ) → WellFormed (length x) v → y ≡ toBool (valueOf x v))
+            → ((s : ℕ) → gave c s ≡ placed s (value (fromBool y))) → Answers R used top d k nodes row text after (Gave c t)
+        unfolding eval joins
+        left-decided c y q j f =
+            let z : decides op (valueOf (take t after) v) ≡ true = sym (dec (take t after) left-within) ∙ q in
+            let b : Applied after after t (Gave c t) (value (fromBool y)) = record { reply = f t; text = sym (plain-flag after t y .same) } in
+            let a = applied-gives after after t 0 0 left-long (rw h (A .small)) (omega arith) (omega arith) (Gave c t) _ (holds-truth 0 y) b in
+            record {
+              kept = g .kept;
+              says =
+                  rw (two-tree base, g .says .0, z, ← j (take t after) left-within)
+                  (says-more after top t 0 _ (Gave c t) _ (g .says .2) (omega (arith, g .says .3)) (a .says));
+            }
+
+        module _ (q : b ≡ false) where
+          same-base : take used after ≡ base
+          same-base = base-kept after (g .kept)
+
+          pub right-asks : Asks R used t (d - 1) (k - 1) nodes row after
+          right-asks =
+              record {
+                marks = omega (arith, A .marks, g .says .2);
+                short = A .short;
+                small = rw h (A .small);
+                sound = at-two .3;
+                rows = A .rows;
+                room = rw same-base (omega (arith, two-room, g .says .3));
+              }
+
+          undecided : decides op (valueOf (take t after) v) ≡ false
+          undecided = sym (dec (take t after) left-within) ∙ q
+
+          module _ (last : List ℕ) (s : Answer) (g₂ : Answers R used t (d - 1) (k - 1) nodes row after last s) where
+            -- the right operand's answer, read in the text as it was at first
+            right-in : AnswersIn R base t (d - 1) (k - 1) nodes row after last s
+            right-in = subst (λ b. AnswersIn R b t (d - 1) (k - 1) nodes row after last s) same-base g₂
+
+            kept-both : take top last ≡ take top text
+            kept-both = kept-trans text after last top t (g .says .2) (g .kept) (right-in .kept)
+
+            pub right-refused : Refusing s → Answers R used top d k nodes row text last s
+            unfolding eval
+            right-refused p = record { kept = kept-both; says = rw (two-tree base, g .says .0, undecided) (handed-on last t _ top _ s _ _ p (right-in .says)) }
+
+            -- the right operand has a value too
+            module _ (w u : ℕ) (p : s ≡ Gave w u) (h₂ : length last ≡ length after) where
+              right-says : Says last t (1024 * joins (treeOf base (d - 1) nodes (k - 1))) (Gave w u) (eval R (rowOf base row) (treeOf base (d - 1) nodes (k - 1)))
+              right-says = rw p at (right-in .says)
+
+              room-now : Room R u (length last)
+              room-now =
+                  record {
+                    above = omega (arith, two-room, g .says .3, right-says .3, A .short);
+                    short = A .short;
+                    small = rw (h₂, h) (A .small);
+                  }
+
+              pub join-asks : (32 ≤ op) × (op < 50) × Room R u (length last) × WellFormed u v × WellFormed u w
+              join-asks = (at-two .0 .0, at-two .0 .1, room-now, well-more t u v (right-says .2) (g .says .1), right-says .1)
+
+              pub two-answers : (end : List ℕ) (r : Answer) → Applied last end u r (twoSided R op (valueOf (take u last) v) (valueOf (take u last) w))
+                  → Answers R used top d k nodes row text end r
+              unfolding eval joins
+              two-answers end r j =
+                  let x : valueOf (take u last) v ≡ valueOf (take t after) v = value-more t u after last v (right-says .2) (g .says .1) (right-in .kept) in
+                  let y = applied-gives last end u 1024 (R .limit) (omega (arith, room-now .above)) (room-now .small) (A .short) (A .short) r _ (holds-two-sided R op _ _ (value-int32 (take u last) v) (value-int32 (take u last) w)) j in
+                  record {
+                    kept = kept-trans text last end top u (omega (arith, g .says .2, right-says .2)) kept-both (y .kept);
+                    says =
+                        rw (two-tree base, g .says .0, undecided, right-says .0)
+                        (says-more end top u 1024 _ r _ (omega (arith, g .says .2, right-says .2)) (omega (arith, g .says .3, right-says .3)) (rw x at (y .says)));
+                  }

@@ -1,0 +1,59 @@
+-- Conditions as trees, and what one comes to on a row: Ast and Ast::eval of expr.rs. Assumes nothing: these are definitions.
+use Prim.Native.Nat.{ℕ, _+_, max}
+use mathlib.Core.List.{List}
+use mathlib.Core.Bool.{Bool, true, false, not, cond}
+use lib.ListN.{getD}
+use lib.Dec.{ltb, eqb}
+use Rattle.values.specs.Value.{Value, null, toBool, fromBool}
+use Rattle.integers.specs.Outcome.{Outcome, value}
+use Rattle.operators.specs.Operator.{unaryOf, binaryOf}
+use Rattle.operators.specs.declared.Rules.{Rules}
+
+-- an operator is told by its kind's number, AND (48) and OR (49) too
+pub data Ast : Type 0 where
+  literal : Value → Ast
+  column : ℕ → Ast
+  unary : ℕ → Ast → Ast
+  binary : ℕ → Ast → Ast → Ast
+
+-- a refusal is handed on; a value goes to the rest
+abbrev pub andThen : Outcome → (Value → Outcome) → Outcome
+andThen (value v) f = f v
+andThen (Outcome.refused n) f = Outcome.refused n
+
+-- AND is decided by a false left operand, OR by a true one; nothing else is
+unfoldable pub decides : ℕ → Value → Bool
+decides op v = cond (eqb op 48) (not (toBool v)) (cond (eqb op 49) (toBool v) false)
+
+-- where the left operand has not decided: AND and OR give the right one's truth as 1 or 0
+unfoldable pub twoSided : Rules → ℕ → Value → Value → Outcome
+twoSided R op v w = cond (ltb op 47) (binaryOf R op v w) (value (fromBool (toBool w)))
+
+-- Ast::eval: left operand first, then right; the right isn't evaluated when the left decides
+unfoldable pub eval : Rules → List Value → Ast → Outcome
+eval R row (literal v) = value v
+eval R row (column c) = value (getD row c null)
+eval R row (unary op a) = andThen (eval R row a) (unaryOf R op)
+eval R row (binary op a b) =
+    andThen (eval R row a) (λ v. cond (decides op v) (value (fromBool (toBool v))) (andThen (eval R row b) (twoSided R op v)))
+
+-- how many nodes a tree has
+unfoldable pub size : Ast → ℕ
+size (literal v) = 1
+size (column c) = 1
+size (unary op a) = size a + 1
+size (binary op a b) = size a + size b + 1
+
+-- how deep it is, a leaf having depth 1
+unfoldable pub height : Ast → ℕ
+height (literal v) = 1
+height (column c) = 1
+height (unary op a) = height a + 1
+height (binary op a b) = max (height a) (height b) + 1
+
+-- how many two-sided operators it has: each may join two texts
+unfoldable pub joins : Ast → ℕ
+joins (literal v) = 0
+joins (column c) = 0
+joins (unary op a) = joins a
+joins (binary op a b) = joins a + joins b + 1

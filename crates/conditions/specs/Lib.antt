@@ -1,0 +1,2 @@
+pub mod Ast
+pub mod Table
