@@ -4,6 +4,8 @@ use mathlib.Core.List.{List}
 use Prim.Native.Nat.{ℕ, _^_, _/_, _%_, _<_}
 use native.Mathlib.Omega.{arith}
 use lib.ListN.{length, getD, List·getD-map}
+use mathlib.Core.Bool.{Bool, true, false, cond}
+use lib.Dec.{eqb}
 use borrow.Author.Tests.{eq-eqb, ne-eqb, lt-ltb}
 use Rattle.cells.specs.Cell.{WellFormed, refOf}
 use Rattle.cells.proofs.Words.{ref-null}
@@ -36,12 +38,16 @@ leaf-column used w row r e s rs q =
 
 pub leaf-literal : (used w : ℕ) (row : List ℕ) (r : ℕ) → (w / 2 ^ 56 ≡ 4 → ⊥) → LeafSound used (length row) w → r ≡ w → LeafIs used w row r
 unfolding eval leafOf LeafSound
-leaf-literal used w row r e s q =
-    record {
-      exact = rw (ne-eqb (w / 2 ^ 56) 4 e) q;
-      means = λ R base. rw (ne-eqb (w / 2 ^ 56) 4 e, q);
-      within = rw q (rw (ne-eqb (w / 2 ^ 56) 4 e) at s);
-    }
+leaf-literal used w row r e s q = go (eqb (w / 2 ^ 56) 3) refl (rw (ne-eqb (w / 2 ^ 56) 4 e) at s)
+  where
+    go : (t : Bool) → eqb (w / 2 ^ 56) 3 ≡ t → cond t ⊥ (WellFormed used w) → LeafIs used w row r
+    go true f s = absurd s
+    go false f s =
+        record {
+          exact = rw (ne-eqb (w / 2 ^ 56) 4 e) q;
+          means = λ R base. rw (ne-eqb (w / 2 ^ 56) 4 e, f, q);
+          within = rw q s;
+        }
 
 -- a word below kind 16 is a leaf
 pub leaf-node : (w : ℕ) → w < 1152921504606846976 → nodeOf w ≡ Leaf w

@@ -9,10 +9,11 @@ use Rattle.integers.specs.Outcome.{Outcome, value}
 use Rattle.operators.specs.Operator.{unaryOf, binaryOf}
 use Rattle.operators.specs.declared.Rules.{Rules}
 
--- an operator is told by its kind's number, AND (48) and OR (49) too
+-- a column stands by its number, or by its name before it is bound; an operator is told by its kind's number, AND (48) and OR (49) too
 pub data Ast : Type 0 where
   literal : Value → Ast
   column : ℕ → Ast
+  named : List ℕ → Ast
   unary : ℕ → Ast → Ast
   binary : ℕ → Ast → Ast → Ast
 
@@ -29,10 +30,11 @@ decides op v = cond (eqb op 48) (not (toBool v)) (cond (eqb op 49) (toBool v) fa
 unfoldable pub twoSided : Rules → ℕ → Value → Value → Outcome
 twoSided R op v w = cond (ltb op 47) (binaryOf R op v w) (value (fromBool (toBool w)))
 
--- Ast::eval: left operand first, then right; the right isn't evaluated when the left decides
+-- Ast::eval: left operand first, then right; the right isn't evaluated when the left decides. (A bound condition has no named column.)
 unfoldable pub eval : Rules → List Value → Ast → Outcome
 eval R row (literal v) = value v
 eval R row (column c) = value (getD row c null)
+eval R row (named name) = value null
 eval R row (unary op a) = andThen (eval R row a) (unaryOf R op)
 eval R row (binary op a b) =
     andThen (eval R row a) (λ v. cond (decides op v) (value (fromBool (toBool v))) (andThen (eval R row b) (twoSided R op v)))
@@ -41,6 +43,7 @@ eval R row (binary op a b) =
 unfoldable pub size : Ast → ℕ
 size (literal v) = 1
 size (column c) = 1
+size (named name) = 1
 size (unary op a) = size a + 1
 size (binary op a b) = size a + size b + 1
 
@@ -48,6 +51,7 @@ size (binary op a b) = size a + size b + 1
 unfoldable pub height : Ast → ℕ
 height (literal v) = 1
 height (column c) = 1
+height (named name) = 1
 height (unary op a) = height a + 1
 height (binary op a b) = max (height a) (height b) + 1
 
@@ -55,5 +59,6 @@ height (binary op a b) = max (height a) (height b) + 1
 unfoldable pub joins : Ast → ℕ
 joins (literal v) = 0
 joins (column c) = 0
+joins (named name) = 0
 joins (unary op a) = joins a
 joins (binary op a b) = joins a + joins b + 1

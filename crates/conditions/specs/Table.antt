@@ -6,13 +6,14 @@ use mathlib.Core.List.{List, map}
 use mathlib.Core.Bool.{Bool, true, false, cond}
 use lib.ListN.{length, take, getD}
 use lib.Dec.{ltb, eqb}
-use Rattle.cells.specs.Cell.{WellFormed}
+use Rattle.slices.specs.Splice.{piece}
+use Rattle.cells.specs.Cell.{WellFormed, startOf, lengthOf}
 use Rattle.values.specs.Value.{Value, null, valueOf}
 use Rattle.integers.specs.Outcome.{Outcome, value}
 use Rattle.integers.specs.declared.Answer.{Answer}
 use Rattle.integers.specs.declared.Answer.the-variants.{Gave, Overflow, ShiftAmount, TooLong}
 use Rattle.operators.specs.declared.Rules.{Rules}
-use Rattle.conditions.specs.Ast.{Ast, literal, column, unary, binary, joins, eval}
+use Rattle.conditions.specs.Ast.{Ast, literal, column, named, unary, binary, joins, eval}
 use Rattle.conditions.specs.declared.Node.{Node}
 use Rattle.conditions.specs.declared.Node.the-variants.{Leaf, One, Two}
 
@@ -20,9 +21,10 @@ use Rattle.conditions.specs.declared.Node.the-variants.{Leaf, One, Two}
 unfoldable pub nodeOf : ℕ → Node
 nodeOf w = cond (ltb (w / 2 ^ 56) 16) (Leaf w) (cond (ltb (w / 2 ^ 56) 32) (One (w / 2 ^ 56)) (Two (w / 2 ^ 56) (w % 2 ^ 56)))
 
--- a leaf: kind 4 is a column by its number, any other a literal
+-- a leaf: kind 4 is a column by its number, kind 3 one by its name, any other a literal
 unfoldable pub leafOf : List ℕ → ℕ → Ast
-leafOf base w = cond (eqb (w / 2 ^ 56) 4) (column (w % 2 ^ 56)) (literal (valueOf base w))
+leafOf base w =
+    cond (eqb (w / 2 ^ 56) 4) (column (w % 2 ^ 56)) (cond (eqb (w / 2 ^ 56) 3) (named (piece (startOf w) (lengthOf w) base)) (literal (valueOf base w)))
 
 -- a tree from its node and the trees below it: the right operand, or the only one, stands just before
 abbrev pub grow : List ℕ → Node → (ℕ → Ast) → ℕ → Ast
@@ -35,9 +37,9 @@ unfoldable pub treeOf : List ℕ → ℕ → List ℕ → ℕ → Ast
 treeOf base zero nodes k = literal null
 treeOf base (suc d) nodes k = grow base (nodeOf (getD nodes k 0)) (treeOf base d nodes) k
 
--- a column is below the width, a literal is well formed below the mark
+-- of a bound condition: a column is below the width, a literal is well formed below the mark
 unfoldable pub LeafSound : ℕ → ℕ → ℕ → Type 0
-LeafSound used width w = cond (eqb (w / 2 ^ 56) 4) (w % 2 ^ 56 < width) (WellFormed used w)
+LeafSound used width w = cond (eqb (w / 2 ^ 56) 4) (w % 2 ^ 56 < width) (cond (eqb (w / 2 ^ 56) 3) ⊥ (WellFormed used w))
 
 abbrev pub SoundAt : ℕ → ℕ → Node → (ℕ → Type 0) → ℕ → Type 0
 SoundAt used width (Leaf w) sub k = LeafSound used width w
