@@ -58,16 +58,16 @@ well-inside used w h = go (eqb (kindOf w) 1) (eqb (kindOf w) 2) (eqb (kindOf w) 
     go false false false e f g = rw (ref-null w (eqb-false (kindOf w) 1 e) (eqb-false (kindOf w) 2 f) (eqb-false (kindOf w) 3 g)) tt
 
 -- a word of a kind that has enough bodies
-cell-by : (w k m : ℕ) → kindOf w ≡ k → bodiesOf k ≡ m → bodyOf w < m → isCell w ≡ true
+pub cell-by : (w k m : ℕ) → kindOf w ≡ k → bodiesOf k ≡ m → bodyOf w < m → isCell w ≡ true
 unfolding isCell
 cell-by w k m e f h = lt-ltb (bodyOf w) (bodiesOf (kindOf w)) (rw (e, f) h)
 
 -- a word of another kind than text reaches nowhere, and a text that ends at the mark or before not beyond it
-text-by : (used w k : ℕ) → kindOf w ≡ k → (k ≡ 2 → ⊥) → reachesBeyond used w ≡ false
+pub text-by : (used w k : ℕ) → kindOf w ≡ k → (k ≡ 2 → ⊥) → reachesBeyond used w ≡ false
 unfolding reachesBeyond
 text-by used w k e n = rw (e, ne-eqb k 2 n)
 
-inside-by : (used w : ℕ) → kindOf w ≡ 2 → startOf w + lengthOf w ≤ used → reachesBeyond used w ≡ false
+pub inside-by : (used w : ℕ) → kindOf w ≡ 2 → startOf w + lengthOf w ≤ used → reachesBeyond used w ≡ false
 unfolding reachesBeyond
 inside-by used w e h = rw (eq-eqb (kindOf w) 2 e) (le-ltb used (startOf w + lengthOf w) h)
 

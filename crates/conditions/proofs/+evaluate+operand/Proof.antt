@@ -5,8 +5,23 @@ use native.Mathlib.Omega.{arith}
 use mathlib.Core.Path.{sym, _∙_}
 use Rattle.conditions.proofs.Leaves.{leaf-node}
 use Rattle.conditions.proofs.Walk.{
-  in-table, deep, leaf-sound, leaf-answers, one-known, one-below, one-asks, one-refused, one-answers, two-below, left-asks, left-refused,
-  left-decided, right-asks, right-refused, join-asks, two-answers
+  in-table,
+  deep,
+  leaf-sound,
+  leaf-answers,
+  one-known,
+  one-below,
+  one-asks,
+  one-refused,
+  one-answers,
+  two-below,
+  left-asks,
+  left-refused,
+  left-decided,
+  right-asks,
+  right-refused,
+  join-asks,
+  two-answers,
 }
 use Prim.Native.Nat.{ℕ, _<_, _*_, _+_}
 use borrow.Fn.Kinds.{In}

@@ -17,9 +17,9 @@ to-bool-requires c κs = search needs
 returns : tie.Need-returns
 returns c =
     λ t h.
-      let r = c .before .from-word .ensures in
-      let i : Inside (length t) (c .before .from-word .result) = rw r (well-inside _ _ h) in
-      c .to-bool .ensures t i ∙ ap (λ v. toBool (toValue t v)) r
+    let r = c .before .from-word .ensures in
+    let i : Inside (length t) (c .before .from-word .result) = rw r (well-inside _ _ h) in
+    c .to-bool .ensures t i ∙ ap (λ v. toBool (toValue t v)) r
 
 pub truth-spec : {M : Type 1} → statement M
 truth-spec = tie.close (tie.spec from-word-requires to-bool-requires returns)

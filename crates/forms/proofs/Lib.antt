@@ -1,0 +1,5 @@
+-- What the proofs of several functions use, here and above.
+pub mod Stack
+pub mod Words
+pub mod Steps
+pub mod Scanning
