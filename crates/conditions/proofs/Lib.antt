@@ -2,4 +2,5 @@
 pub mod Giving
 pub mod Leaves
 pub mod Deciding
+pub mod Lying
 pub mod Walk

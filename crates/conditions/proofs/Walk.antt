@@ -21,9 +21,10 @@ use Rattle.operators.specs.declared.Rules.{Rules}
 use Rattle.operators.proofs.ByKind.{plain-unary, plain-flag}
 use Rattle.operators.proofs.Holding.{holds-unary, holds-truth, value-int32}
 use Rattle.conditions.specs.Ast.{Ast, literal, column, unary, binary, joins, eval, decides, twoSided, andThen}
-use Rattle.conditions.specs.Table.{nodeOf, leafOf, grow, treeOf, LeafSound, SoundAt, Sound, rowOf, RowSound, Asks, Says, Gives, Answers, LeafIs}
+use Rattle.conditions.specs.Table.{nodeOf, leafOf, grow, treeOf, LeafSound, SoundAt, Sound, rowOf, RowSound, Asks, Says, Gives, Answers, LeafIs, Lies}
 use Rattle.conditions.specs.declared.Node.the-variants.{Leaf, One, Two}
 use Rattle.conditions.proofs.Giving.{handed-on, says-more, kept-trans, applied-gives, well-more, value-more}
+use Rattle.conditions.proofs.Lying.{lies-one, lies-two}
 use Rattle.conditions.proofs.Deciding.{holds-two-sided}
 
 -- one step down
@@ -114,6 +115,16 @@ module _ (R : Rules) (used top d k : ℕ) (nodes row text : List ℕ) (A : Asks 
         let z = applied-gives after after t 0 0 i (rw h (A .small)) (omega arith) (omega arith) r _ (holds-unary 0 R op _) y in
         record { kept = g .kept; says = rw (one-tree base, g .says .0) (says-more after top t 0 _ r _ (g .says .2) (omega (arith, g .says .3)) (z .says)) }
 
+    pub one-lies : (after : List ℕ) (v t : ℕ) (r : Answer) → Answers R used top (d - 1) (k - 1) nodes row text after (Gave v t)
+        → ((x : List ℕ) → WellFormed (length x) v → replyOf r ≡ placed t (unaryOf R op (valueOf x v))) → length after ≡ length text
+        → Lies top (nodeOf (getD nodes k 0)) row r
+    unfolding joins
+    one-lies after v t r g f h =
+        let m : top + 1024 * joins (treeOf base (d - 1) nodes (k - 1)) ≤ length text = rw (one-tree base) at (A .room) in
+        let i : t ≤ length after = omega (arith, g .says .3) in
+        let x : WellFormed (length (take t after)) v = subst (λ n. WellFormed n v) (sym (length-take-le t after i)) (g .says .1) in
+        lies-one t 0 (omega arith) (omega (arith, A .small)) top op _ row _ r (g .says .2) e (holds-unary 0 R op (valueOf (take t after) v)) (f (take t after) x)
+
   module _ (op l : ℕ) (e : nodeOf (getD nodes k 0) ≡ Two op l) where
     at-two : ((32 ≤ op) × (op < 50)) × (l < k) × Sound used (length row) (d - 1) nodes l × Sound used (length row) (d - 1) nodes (k - 1)
     at-two = rw e at step
@@ -161,6 +172,9 @@ module _ (R : Rules) (used top d k : ℕ) (nodes row text : List ℕ) (A : Asks 
                   rw (two-tree base, g .says .0, z, ← j (take t after) left-within)
                   (says-more after top t 0 _ (Gave c t) _ (g .says .2) (omega (arith, g .says .3)) (a .says));
             }
+
+        pub left-lies : (c : ℕ) (y : Bool) → ((s : ℕ) → gave c s ≡ placed s (value (fromBool y))) → Lies top (nodeOf (getD nodes k 0)) row (Gave c t)
+        left-lies c y f = lies-two t 0 (omega arith) (omega (arith, A .small, left-long, h)) top op l _ row _ (Gave c t) (g .says .2) e (holds-truth 0 y) (f t)
 
         module _ (q : b ≡ false) where
           same-base : take used after ≡ base
@@ -220,3 +234,9 @@ module _ (R : Rules) (used top d k : ℕ) (nodes row text : List ℕ) (A : Asks 
                         rw (two-tree base, g .says .0, undecided, right-says .0)
                         (says-more end top u 1024 _ r _ (omega (arith, g .says .2, right-says .2)) (omega (arith, g .says .3, right-says .3)) (rw x at (y .says)));
                   }
+
+              pub two-lies : (end : List ℕ) (r : Answer) → Applied last end u r (twoSided R op (valueOf (take u last) v) (valueOf (take u last) w))
+                  → Lies top (nodeOf (getD nodes k 0)) row r
+              two-lies end r j =
+                  lies-two u (R .limit) (A .short) (omega (arith, room-now .above, room-now .small)) top op l _ row _ r (omega (arith, g .says .2, right-says .2)) e
+                  (holds-two-sided R op _ _ (value-int32 (take u last) v) (value-int32 (take u last) w)) (j .reply)

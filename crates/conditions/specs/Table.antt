@@ -7,7 +7,7 @@ use mathlib.Core.Bool.{Bool, true, false, cond}
 use lib.ListN.{length, take, getD}
 use lib.Dec.{ltb, eqb}
 use Rattle.slices.specs.Splice.{piece}
-use Rattle.cells.specs.Cell.{WellFormed, startOf, lengthOf}
+use Rattle.cells.specs.Cell.{WellFormed, kindOf, startOf, lengthOf}
 use Rattle.values.specs.Value.{Value, null, valueOf}
 use Rattle.integers.specs.Outcome.{Outcome, value}
 use Rattle.integers.specs.declared.Answer.{Answer}
@@ -86,8 +86,25 @@ Answers R used top depth k nodes row before after r =
     Gives before after top (1024 * joins (treeOf (take used before) depth nodes k)) r
     (eval R (rowOf (take used before) row) (treeOf (take used before) depth nodes k))
 
--- what the word of a leaf's cell is: the row's own, or the literal's own
+-- the word of a leaf's cell: the row's own, or the literal's own
+abbrev pub leafCell : List ℕ → ℕ → ℕ
+leafCell row w = cond (eqb (w / 2 ^ 56) 4) (getD row (w % 2 ^ 56) 0) w
+
+-- a leaf's cell is exact; a text of any other tree was computed, and starts at the old top or above
+abbrev pub LiesAt : ℕ → Node → List ℕ → ℕ → Type 0
+LiesAt top (Leaf x) row w = w ≡ leafCell row x
+LiesAt top (One op) row w = kindOf w ≡ 2 → top ≤ startOf w
+LiesAt top (Two op l) row w = kindOf w ≡ 2 → top ≤ startOf w
+
+-- where the cell of an answer lies
+abbrev pub Lies : ℕ → Node → List ℕ → Answer → Type 0
+Lies top node row (Gave w u) = LiesAt top node row w
+Lies top node row Overflow = Unit {0}
+Lies top node row ShiftAmount = Unit {0}
+Lies top node row TooLong = Unit {0}
+
+-- what the word of a leaf's cell is
 pub record LeafIs (used w : ℕ) (row : List ℕ) (r : ℕ) : Type 0 where
-  pub exact : r ≡ cond (eqb (w / 2 ^ 56) 4) (getD row (w % 2 ^ 56) 0) w
+  pub exact : r ≡ leafCell row w
   pub means : (R : Rules) (base : List ℕ) → eval R (rowOf base row) (leafOf base w) ≡ value (valueOf base r)
   pub within : WellFormed used r

@@ -2,13 +2,13 @@
 ghost use mathlib.Core.Path.{_≡_};
 ghost use mathlib.Core.List.{List};
 ghost use Prim.Native.Nat.{ℕ, _<_, _≤_};
-ghost use lib.ListN.{length, take};
+ghost use lib.ListN.{length, take, getD};
 ghost use Rattle.cells.specs.Cell.{WellFormed};
 ghost use Rattle.values.specs.Value.{valueOf, toBool, fromBool};
 ghost use Rattle.integers.specs.Outcome.{value, gave, placed};
 ghost use Rattle.operators.specs.Operator.{Applied, Room};
 ghost use Rattle.conditions.specs.Ast.{decides, twoSided};
-ghost use Rattle.conditions.specs.Table.{nodeOf, LeafSound, RowSound, LeafIs, Asks, Answers};
+ghost use Rattle.conditions.specs.Table.{nodeOf, LeafSound, RowSound, LeafIs, Asks, Answers, Lies};
 use cells::ValueRef;
 use integers::Answer;
 use operators::Rules;
@@ -89,7 +89,8 @@ fn operand(
     top: usize,
 ) -> Answer
     requires { ⌜ Asks rules used top depth k (now nodes) (now row) (now text) ⌝ }
-    ensures { λ r. ⌜ Answers rules used top depth k (now (nodes .entry)) (now (row .entry)) (now (text .entry)) (now (text .exit)) r ⌝ }
+    ensures means { λ r. ⌜ Answers rules used top depth k (now (nodes .entry)) (now (row .entry)) (now (text .entry)) (now (text .exit)) r ⌝ }
+    ensures lies { λ r. ⌜ Lies top (nodeOf (getD (now (nodes .entry)) k 0)) (now (row .entry)) r ⌝ }
 {
     let word = nodes[k];
     if word < 0x1000_0000_0000_0000 {
@@ -110,7 +111,8 @@ pub fn evaluate(
     top: usize,
 ) -> Answer
     requires { ⌜ Asks rules used top depth k (now nodes) (now row) (now text) ⌝ }
-    ensures { λ r. ⌜ Answers rules used top depth k (now (nodes .entry)) (now (row .entry)) (now (text .entry)) (now (text .exit)) r ⌝ }
+    ensures means { λ r. ⌜ Answers rules used top depth k (now (nodes .entry)) (now (row .entry)) (now (text .entry)) (now (text .exit)) r ⌝ }
+    ensures lies { λ r. ⌜ Lies top (nodeOf (getD (now (nodes .entry)) k 0)) (now (row .entry)) r ⌝ }
 {
     match node_of(nodes[k]) {
         Node::Leaf(word) => Answer::Gave(leaf(word, row, used), top),

@@ -3,26 +3,14 @@
 use borrow.Author.Needs.{needs, scaled-fits}
 use native.Mathlib.Omega.{arith}
 use mathlib.Core.Path.{sym, _∙_}
+use lib.ListN.{getD}
+use Rattle.conditions.specs.Table.{nodeOf}
 use Rattle.conditions.proofs.Leaves.{leaf-node}
 use Rattle.conditions.proofs.Walk.{
-  in-table,
-  deep,
-  leaf-sound,
-  leaf-answers,
-  one-known,
-  one-below,
-  one-asks,
-  one-refused,
-  one-answers,
-  two-below,
-  left-asks,
-  left-refused,
-  left-decided,
-  right-asks,
-  right-refused,
-  join-asks,
-  two-answers,
+  in-table, deep, leaf-sound, leaf-answers, one-known, one-below, one-asks, one-refused, one-answers, two-below, left-asks, left-refused,
+  left-decided, right-asks, right-refused, join-asks, two-answers, one-lies, left-lies, two-lies
 }
+use Rattle.conditions.proofs.Lying.{lies-refused, lies-leaf}
 use Prim.Native.Nat.{ℕ, _<_, _*_, _+_}
 use borrow.Fn.Kinds.{In}
 use borrow.Fn.PlainCycle.{Measures, is, falls, and}
@@ -101,7 +89,7 @@ evaluate-same-length : (t : ℕ) → evaluate-lts.Need-same-length (rs t) (evalu
 evaluate-same-length t c = search needs
 
 evaluate-returns : (t : ℕ) → evaluate-lts.Need-returns (rs t) (evaluate-at t) evaluate.Post
-evaluate-returns t c = one-refused _ _ _ _ _ _ _ _ (c .before .before .before .before .before .before .before .before .before .before .before .before .before .pre .1) _ (sym (c .before .before .before .before .before .before .before .before .node-of .ensures) ∙ c .before .before .before .before .before .before .op .given .1) _ _ (c .match2 .keys2) (c .before .before .before .operand .ensures)
+evaluate-returns t c = (one-refused _ _ _ _ _ _ _ _ (c .before .before .before .before .before .before .before .before .before .before .before .before .before .pre .1) _ (sym (c .before .before .before .before .before .before .before .before .node-of .ensures) ∙ c .before .before .before .before .before .before .op .given .1) _ _ (c .match2 .keys2) (c .before .before .before .operand .ensures .0), lies-refused (c .before .before .before .before .before .before .before .before .before .before .before .before .before .args .top) (nodeOf (getD (c .before .before .before .before .before .before .before .before .before .before .before .before .before .args .nodes .now) (c .before .before .before .before .before .before .before .before .before .before .before .before .before .args .k) 0)) (c .before .before .before .before .before .before .before .before .before .before .before .before .before .args .row .now) (c .before .before .before .operand .result) (c .match2 .keys2))
 
 evaluate-unary-requires : (t : ℕ) → evaluate-lts.Need-unary-requires (rs t) (evaluate-at t) evaluate.Post
 evaluate-unary-requires t c κs = one-known _ _ _ _ _ _ _ _ (c .before .before .before .before .before .before .before .before .before .before .before .before .before .before .before .pre .1) _ (sym (c .before .before .before .before .before .before .before .before .before .before .node-of .ensures) ∙ c .before .before .before .before .before .before .before .before .op .given .1)
@@ -122,7 +110,7 @@ evaluate-same-length-2 : (t : ℕ) → evaluate-lts.Need-same-length-2 (rs t) (e
 evaluate-same-length-2 t c = search needs
 
 evaluate-returns-2 : (t : ℕ) → evaluate-lts.Need-returns-2 (rs t) (evaluate-at t) evaluate.Post
-evaluate-returns-2 t c = left-refused _ _ _ _ _ _ _ _ (c .before .before .before .before .before .before .before .before .before .before .before .before .before .pre .1) _ _ (sym (c .before .before .before .before .before .before .before .before .node-of .ensures) ∙ c .before .before .before .before .before .before .op2 .given .1) _ _ (c .match3 .keys2) (c .before .before .before .operand2 .ensures)
+evaluate-returns-2 t c = (left-refused _ _ _ _ _ _ _ _ (c .before .before .before .before .before .before .before .before .before .before .before .before .before .pre .1) _ _ (sym (c .before .before .before .before .before .before .before .before .node-of .ensures) ∙ c .before .before .before .before .before .before .op2 .given .1) _ _ (c .match3 .keys2) (c .before .before .before .operand2 .ensures .0), lies-refused (c .before .before .before .before .before .before .before .before .before .before .before .before .before .args .top) (nodeOf (getD (c .before .before .before .before .before .before .before .before .before .before .before .before .before .args .nodes .now) (c .before .before .before .before .before .before .before .before .before .before .before .before .before .args .k) 0)) (c .before .before .before .before .before .before .before .before .before .before .before .before .before .args .row .now) (c .before .before .before .operand2 .result) (c .match3 .keys2))
 
 evaluate-decided-requires : (t : ℕ) → evaluate-lts.Need-decided-requires (rs t) (evaluate-at t) evaluate.Post
 evaluate-decided-requires t c κs = search needs
@@ -137,7 +125,7 @@ evaluate-same-length-3 : (t : ℕ) → evaluate-lts.Need-same-length-3 (rs t) (e
 evaluate-same-length-3 t c = search needs
 
 evaluate-returns-3 : (t : ℕ) → evaluate-lts.Need-returns-3 (rs t) (evaluate-at t) evaluate.Post
-evaluate-returns-3 t c = left-decided _ _ _ _ _ _ _ _ (c .before .before .before .before .before .before .before .before .before .before .before .before .before .before .before .before .before .before .before .pre .1) _ _ (sym (c .before .before .before .before .before .before .before .before .before .before .before .before .before .before .node-of .ensures) ∙ c .before .before .before .before .before .before .before .before .before .before .before .before .op2 .given .1) _ _ _ (rw (c .before .before .before .before .before .a2 .given .1) at (c .before .before .before .before .before .before .before .before .before .operand2 .ensures)) (c .before .before .before .before .before .before .before .before .before .operand2 .kept .1 .1 .1 .1 .1 .0) _ (c .before .before .before .decided .ensures) _ _ (c .before .before .if1 .taken) (c .before .truth .ensures) (c .flag .ensures)
+evaluate-returns-3 t c = (left-decided _ _ _ _ _ _ _ _ (c .before .before .before .before .before .before .before .before .before .before .before .before .before .before .before .before .before .before .before .pre .1) _ _ (sym (c .before .before .before .before .before .before .before .before .before .before .before .before .before .before .node-of .ensures) ∙ c .before .before .before .before .before .before .before .before .before .before .before .before .op2 .given .1) _ _ _ (rw (c .before .before .before .before .before .a2 .given .1) at (c .before .before .before .before .before .before .before .before .before .operand2 .ensures .0)) (c .before .before .before .before .before .before .before .before .before .operand2 .kept .1 .1 .1 .1 .1 .0) _ (c .before .before .before .decided .ensures) _ _ (c .before .before .if1 .taken) (c .before .truth .ensures) (c .flag .ensures), left-lies _ _ _ _ _ _ _ _ (c .before .before .before .before .before .before .before .before .before .before .before .before .before .before .before .before .before .before .before .pre .1) _ _ (sym (c .before .before .before .before .before .before .before .before .before .before .before .before .before .before .node-of .ensures) ∙ c .before .before .before .before .before .before .before .before .before .before .before .before .op2 .given .1) _ _ _ (rw (c .before .before .before .before .before .a2 .given .1) at (c .before .before .before .before .before .before .before .before .before .operand2 .ensures .0)) (c .before .before .before .before .before .before .before .before .before .operand2 .kept .1 .1 .1 .1 .1 .0) _ (c .before .before .before .decided .ensures) _ _ (c .flag .ensures))
 
 evaluate-sub-operand-4 : (t : ℕ) → evaluate-lts.Need-sub-operand-4 (rs t) (evaluate-at t) evaluate.Post
 evaluate-sub-operand-4 t c = two-below _ _ _ _ _ _ _ _ (c .before .before .before .before .before .before .before .before .before .before .before .before .before .before .before .before .before .pre .1) _ _ (sym (c .before .before .before .before .before .before .before .before .before .before .before .before .node-of .ensures) ∙ c .before .before .before .before .before .before .before .before .before .before .op2 .given .1)
@@ -146,7 +134,7 @@ evaluate-sub-operand-5 : (t : ℕ) → evaluate-lts.Need-sub-operand-5 (rs t) (e
 evaluate-sub-operand-5 t c = deep _ _ _ _ _ _ _ _ (c .before .before .before .before .before .before .before .before .before .before .before .before .before .before .before .before .before .pre .1)
 
 evaluate-operand-requires-3 : (t : ℕ) → evaluate-lts.Need-operand-requires-3 (rs t) (evaluate-at t) evaluate.Post
-evaluate-operand-requires-3 t c κs = (omega (arith, c .before .before .before .before .before .before .before .before .before .before .before .before .before .before .before .before .before .before .pre .0, deep _ _ _ _ _ _ _ _ (c .before .before .before .before .before .before .before .before .before .before .before .before .before .before .before .before .before .before .pre .1)), right-asks _ _ _ _ _ _ _ _ (c .before .before .before .before .before .before .before .before .before .before .before .before .before .before .before .before .before .before .pre .1) _ _ (sym (c .before .before .before .before .before .before .before .before .before .before .before .before .before .node-of .ensures) ∙ c .before .before .before .before .before .before .before .before .before .before .before .op2 .given .1) _ _ _ (rw (c .before .before .before .before .a2 .given .1) at (c .before .before .before .before .before .before .before .before .operand2 .ensures)) (c .before .before .before .before .before .before .before .before .operand2 .kept .1 .1 .1 .1 .1 .0) _ (c .before .before .decided .ensures) (c .before .if1 .left))
+evaluate-operand-requires-3 t c κs = (omega (arith, c .before .before .before .before .before .before .before .before .before .before .before .before .before .before .before .before .before .before .pre .0, deep _ _ _ _ _ _ _ _ (c .before .before .before .before .before .before .before .before .before .before .before .before .before .before .before .before .before .before .pre .1)), right-asks _ _ _ _ _ _ _ _ (c .before .before .before .before .before .before .before .before .before .before .before .before .before .before .before .before .before .before .pre .1) _ _ (sym (c .before .before .before .before .before .before .before .before .before .before .before .before .before .node-of .ensures) ∙ c .before .before .before .before .before .before .before .before .before .before .before .op2 .given .1) _ _ _ (rw (c .before .before .before .before .a2 .given .1) at (c .before .before .before .before .before .before .before .before .operand2 .ensures .0)) (c .before .before .before .before .before .before .before .before .operand2 .kept .1 .1 .1 .1 .1 .0) _ (c .before .before .decided .ensures) (c .before .if1 .left))
 
 evaluate-enum-known-b : (t : ℕ) → evaluate-lts.Need-enum-known-b (rs t) (evaluate-at t) evaluate.Post
 evaluate-enum-known-b t c = search needs
@@ -155,25 +143,25 @@ evaluate-same-length-4 : (t : ℕ) → evaluate-lts.Need-same-length-4 (rs t) (e
 evaluate-same-length-4 t c = search needs
 
 evaluate-returns-4 : (t : ℕ) → evaluate-lts.Need-returns-4 (rs t) (evaluate-at t) evaluate.Post
-evaluate-returns-4 t c = right-refused _ _ _ _ _ _ _ _ (c .before .before .before .before .before .before .before .before .before .before .before .before .before .before .before .before .before .before .before .before .before .before .pre .1) _ _ (sym (c .before .before .before .before .before .before .before .before .before .before .before .before .before .before .before .before .before .node-of .ensures) ∙ c .before .before .before .before .before .before .before .before .before .before .before .before .before .before .before .op2 .given .1) _ _ _ (rw (c .before .before .before .before .before .before .before .before .a2 .given .1) at (c .before .before .before .before .before .before .before .before .before .before .before .before .operand2 .ensures)) (c .before .before .before .before .before .before .before .before .before .before .before .before .operand2 .kept .1 .1 .1 .1 .1 .0) _ (c .before .before .before .before .before .before .decided .ensures) (c .before .before .before .before .before .if1 .left) _ _ (c .before .before .before .operand3 .ensures) (c .match4 .keys2)
+evaluate-returns-4 t c = (right-refused _ _ _ _ _ _ _ _ (c .before .before .before .before .before .before .before .before .before .before .before .before .before .before .before .before .before .before .before .before .before .before .pre .1) _ _ (sym (c .before .before .before .before .before .before .before .before .before .before .before .before .before .before .before .before .before .node-of .ensures) ∙ c .before .before .before .before .before .before .before .before .before .before .before .before .before .before .before .op2 .given .1) _ _ _ (rw (c .before .before .before .before .before .before .before .before .a2 .given .1) at (c .before .before .before .before .before .before .before .before .before .before .before .before .operand2 .ensures .0)) (c .before .before .before .before .before .before .before .before .before .before .before .before .operand2 .kept .1 .1 .1 .1 .1 .0) _ (c .before .before .before .before .before .before .decided .ensures) (c .before .before .before .before .before .if1 .left) _ _ (c .before .before .before .operand3 .ensures .0) (c .match4 .keys2), lies-refused (c .before .before .before .before .before .before .before .before .before .before .before .before .before .before .before .before .before .before .before .before .before .before .args .top) (nodeOf (getD (c .before .before .before .before .before .before .before .before .before .before .before .before .before .before .before .before .before .before .before .before .before .before .args .nodes .now) (c .before .before .before .before .before .before .before .before .before .before .before .before .before .before .before .before .before .before .before .before .before .before .args .k) 0)) (c .before .before .before .before .before .before .before .before .before .before .before .before .before .before .before .before .before .before .before .before .before .before .args .row .now) (c .before .before .before .operand3 .result) (c .match4 .keys2))
 
 evaluate-apply-requires : (t : ℕ) → evaluate-lts.Need-apply-requires (rs t) (evaluate-at t) evaluate.Post
-evaluate-apply-requires t c κs = join-asks _ _ _ _ _ _ _ _ (c .before .before .before .before .before .before .before .before .before .before .before .before .before .before .before .before .before .before .before .before .before .before .before .before .before .pre .1) _ _ (sym (c .before .before .before .before .before .before .before .before .before .before .before .before .before .before .before .before .before .before .before .before .node-of .ensures) ∙ c .before .before .before .before .before .before .before .before .before .before .before .before .before .before .before .before .before .before .op2 .given .1) _ _ _ (rw (c .before .before .before .before .before .before .before .before .before .before .before .a2 .given .1) at (c .before .before .before .before .before .before .before .before .before .before .before .before .before .before .before .operand2 .ensures)) (c .before .before .before .before .before .before .before .before .before .before .before .before .before .before .before .operand2 .kept .1 .1 .1 .1 .1 .0) _ (c .before .before .before .before .before .before .before .before .before .decided .ensures) (c .before .before .before .before .before .before .before .before .if1 .left) _ _ (c .before .before .before .before .before .before .operand3 .ensures) _ _ (c .before .before .b .given .1) (c .before .before .before .before .before .before .operand3 .kept .1 .1 .1 .1 .1 .0)
+evaluate-apply-requires t c κs = join-asks _ _ _ _ _ _ _ _ (c .before .before .before .before .before .before .before .before .before .before .before .before .before .before .before .before .before .before .before .before .before .before .before .before .before .pre .1) _ _ (sym (c .before .before .before .before .before .before .before .before .before .before .before .before .before .before .before .before .before .before .before .before .node-of .ensures) ∙ c .before .before .before .before .before .before .before .before .before .before .before .before .before .before .before .before .before .before .op2 .given .1) _ _ _ (rw (c .before .before .before .before .before .before .before .before .before .before .before .a2 .given .1) at (c .before .before .before .before .before .before .before .before .before .before .before .before .before .before .before .operand2 .ensures .0)) (c .before .before .before .before .before .before .before .before .before .before .before .before .before .before .before .operand2 .kept .1 .1 .1 .1 .1 .0) _ (c .before .before .before .before .before .before .before .before .before .decided .ensures) (c .before .before .before .before .before .before .before .before .if1 .left) _ _ (c .before .before .before .before .before .before .operand3 .ensures .0) _ _ (c .before .before .b .given .1) (c .before .before .before .before .before .before .operand3 .kept .1 .1 .1 .1 .1 .0)
 
 evaluate-returns-5 : (t : ℕ) → evaluate-lts.Need-returns-5 (rs t) (evaluate-at t) evaluate.Post
-evaluate-returns-5 t c = leaf-answers _ _ _ _ _ _ _ _ (c .before .before .before .before .before .before .before .before .before .pre .1) _ _ (sym (c .before .before .before .before .node-of .ensures) ∙ c .before .before .word .given .1) (c .leaf .ensures)
+evaluate-returns-5 t c = (leaf-answers _ _ _ _ _ _ _ _ (c .before .before .before .before .before .before .before .before .before .pre .1) _ _ (sym (c .before .before .before .before .node-of .ensures) ∙ c .before .before .word .given .1) (c .leaf .ensures), lies-leaf (c .before .before .before .before .before .before .before .before .before .args .top) _ _ _ _ _ (c .before .before .before .before .before .before .before .before .before .args .top) (sym (c .before .before .before .before .node-of .ensures) ∙ c .before .before .word .given .1) (c .leaf .ensures))
 
 evaluate-same-length-5 : (t : ℕ) → evaluate-lts.Need-same-length-5 (rs t) (evaluate-at t) evaluate.Post
 evaluate-same-length-5 t c = search needs
 
 evaluate-returns-6 : (t : ℕ) → evaluate-lts.Need-returns-6 (rs t) (evaluate-at t) evaluate.Post
-evaluate-returns-6 t c = one-answers _ _ _ _ _ _ _ _ (c .before .before .before .before .before .before .before .before .before .before .before .before .before .before .before .before .pre .1) _ (sym (c .before .before .before .before .before .before .before .before .before .before .before .node-of .ensures) ∙ c .before .before .before .before .before .before .before .before .before .op .given .1) _ _ _ _ (rw (c .before .before .a .given .1) at (c .before .before .before .before .before .before .operand .ensures)) (c .unary .ensures) (c .before .before .before .before .before .before .operand .kept .1 .1 .1 .1 .1 .0)
+evaluate-returns-6 t c = (one-answers _ _ _ _ _ _ _ _ (c .before .before .before .before .before .before .before .before .before .before .before .before .before .before .before .before .pre .1) _ (sym (c .before .before .before .before .before .before .before .before .before .before .before .node-of .ensures) ∙ c .before .before .before .before .before .before .before .before .before .op .given .1) _ _ _ _ (rw (c .before .before .a .given .1) at (c .before .before .before .before .before .before .operand .ensures .0)) (c .unary .ensures) (c .before .before .before .before .before .before .operand .kept .1 .1 .1 .1 .1 .0), one-lies _ _ _ _ _ _ _ _ (c .before .before .before .before .before .before .before .before .before .before .before .before .before .before .before .before .pre .1) _ (sym (c .before .before .before .before .before .before .before .before .before .before .before .node-of .ensures) ∙ c .before .before .before .before .before .before .before .before .before .op .given .1) _ _ _ (c .unary .result) (rw (c .before .before .a .given .1) at (c .before .before .before .before .before .before .operand .ensures .0)) (c .unary .ensures) (c .before .before .before .before .before .before .operand .kept .1 .1 .1 .1 .1 .0))
 
 evaluate-same-length-6 : (t : ℕ) → evaluate-lts.Need-same-length-6 (rs t) (evaluate-at t) evaluate.Post
 evaluate-same-length-6 t c = search needs
 
 evaluate-returns-7 : (t : ℕ) → evaluate-lts.Need-returns-7 (rs t) (evaluate-at t) evaluate.Post
-evaluate-returns-7 t c = two-answers _ _ _ _ _ _ _ _ (c .before .before .before .before .before .before .before .before .before .before .before .before .before .before .before .before .before .before .before .before .before .before .before .before .before .before .before .before .pre .1) _ _ (sym (c .before .before .before .before .before .before .before .before .before .before .before .before .before .before .before .before .before .before .before .before .before .before .before .node-of .ensures) ∙ c .before .before .before .before .before .before .before .before .before .before .before .before .before .before .before .before .before .before .before .before .before .op2 .given .1) _ _ _ (rw (c .before .before .before .before .before .before .before .before .before .before .before .before .before .before .a2 .given .1) at (c .before .before .before .before .before .before .before .before .before .before .before .before .before .before .before .before .before .before .operand2 .ensures)) (c .before .before .before .before .before .before .before .before .before .before .before .before .before .before .before .before .before .before .operand2 .kept .1 .1 .1 .1 .1 .0) _ (c .before .before .before .before .before .before .before .before .before .before .before .before .decided .ensures) (c .before .before .before .before .before .before .before .before .before .before .before .if1 .left) _ _ (c .before .before .before .before .before .before .before .before .before .operand3 .ensures) _ _ (c .before .before .before .before .before .b .given .1) (c .before .before .before .before .before .before .before .before .before .operand3 .kept .1 .1 .1 .1 .1 .0) _ _ (c .before .before .apply .ensures)
+evaluate-returns-7 t c = (two-answers _ _ _ _ _ _ _ _ (c .before .before .before .before .before .before .before .before .before .before .before .before .before .before .before .before .before .before .before .before .before .before .before .before .before .before .before .before .pre .1) _ _ (sym (c .before .before .before .before .before .before .before .before .before .before .before .before .before .before .before .before .before .before .before .before .before .before .before .node-of .ensures) ∙ c .before .before .before .before .before .before .before .before .before .before .before .before .before .before .before .before .before .before .before .before .before .op2 .given .1) _ _ _ (rw (c .before .before .before .before .before .before .before .before .before .before .before .before .before .before .a2 .given .1) at (c .before .before .before .before .before .before .before .before .before .before .before .before .before .before .before .before .before .before .operand2 .ensures .0)) (c .before .before .before .before .before .before .before .before .before .before .before .before .before .before .before .before .before .before .operand2 .kept .1 .1 .1 .1 .1 .0) _ (c .before .before .before .before .before .before .before .before .before .before .before .before .decided .ensures) (c .before .before .before .before .before .before .before .before .before .before .before .if1 .left) _ _ (c .before .before .before .before .before .before .before .before .before .operand3 .ensures .0) _ _ (c .before .before .before .before .before .b .given .1) (c .before .before .before .before .before .before .before .before .before .operand3 .kept .1 .1 .1 .1 .1 .0) _ _ (c .before .before .apply .ensures), two-lies _ _ _ _ _ _ _ _ (c .before .before .before .before .before .before .before .before .before .before .before .before .before .before .before .before .before .before .before .before .before .before .before .before .before .before .before .before .pre .1) _ _ (sym (c .before .before .before .before .before .before .before .before .before .before .before .before .before .before .before .before .before .before .before .before .before .before .before .node-of .ensures) ∙ c .before .before .before .before .before .before .before .before .before .before .before .before .before .before .before .before .before .before .before .before .before .op2 .given .1) _ _ _ (rw (c .before .before .before .before .before .before .before .before .before .before .before .before .before .before .a2 .given .1) at (c .before .before .before .before .before .before .before .before .before .before .before .before .before .before .before .before .before .before .operand2 .ensures .0)) (c .before .before .before .before .before .before .before .before .before .before .before .before .before .before .before .before .before .before .operand2 .kept .1 .1 .1 .1 .1 .0) _ (c .before .before .before .before .before .before .before .before .before .before .before .before .decided .ensures) (c .before .before .before .before .before .before .before .before .before .before .before .if1 .left) _ _ (c .before .before .before .before .before .before .before .before .before .operand3 .ensures .0) _ _ (c .before .before .before .before .before .b .given .1) (c .before .before .before .before .before .before .before .before .before .operand3 .kept .1 .1 .1 .1 .1 .0) _ (c .before .before .apply .result) (c .before .before .apply .ensures))
 
 operand-mul-word : (t : ℕ) → operand-lts.Need-mul-word (os t) (operand-at t) operand.Post
 operand-mul-word t c = scaled-fits _ _ 8 (in-table _ _ _ _ _ _ _ _ (c .before .before .before .pre .1)) (c .before .before .before .good .1 .0 .1)
@@ -185,7 +173,7 @@ operand-leaf-requires : (t : ℕ) → operand-lts.Need-leaf-requires (os t) (ope
 operand-leaf-requires t c κs = leaf-sound _ _ _ _ _ _ _ _ (c .before .before .before .before .before .pre .1) _ (leaf-node _ (c .if1 .taken))
 
 operand-returns : (t : ℕ) → operand-lts.Need-returns (os t) (operand-at t) operand.Post
-operand-returns t c = leaf-answers _ _ _ _ _ _ _ _ (c .before .before .before .before .before .before .pre .1) _ _ (leaf-node _ (c .before .if1 .taken)) (c .leaf .ensures)
+operand-returns t c = (leaf-answers _ _ _ _ _ _ _ _ (c .before .before .before .before .before .before .pre .1) _ _ (leaf-node _ (c .before .if1 .taken)) (c .leaf .ensures), lies-leaf (c .before .before .before .before .before .before .args .top) _ _ _ _ _ (c .before .before .before .before .before .before .args .top) (leaf-node _ (c .before .if1 .taken)) (c .leaf .ensures))
 
 operand-evaluate-requires : (t : ℕ) → operand-lts.Need-evaluate-requires (os t) (operand-at t) operand.Post
 operand-evaluate-requires t c κs = (omega (arith, c .before .before .before .before .before .before .pre .0), c .before .before .before .before .before .before .pre .1)

@@ -45,9 +45,10 @@ larger-requires : tie.Need-larger-requires
 larger-requires c κs = search needs
 
 returns-3 : tie.Need-returns-3
-returns-3 c =
-    (refl,
-     λ used base nodes s l h. two-deep used base nodes _ _ _ (c .before .before .before .before .before .before .before .before .before .pre .1 .0) (c .before .before .before .before .before .before .before .before .before .pre .1 .1) l _ _ s (c .before .before .before .before .before .before .if1 .left) (c .before .before .before .before .if2 .left) h (rw (c .before .larger .ensures) at (c .if3 .taken)))
+returns-3 c = (
+  refl,
+  λ used base nodes s l h. two-deep used base nodes _ _ _ (c .before .before .before .before .before .before .before .before .before .pre .1 .0) (c .before .before .before .before .before .before .before .before .before .pre .1 .1) l _ _ s (c .before .before .before .before .before .before .if1 .left) (c .before .before .before .before .if2 .left) h (rw (c .before .larger .ensures) at (c .if3 .taken)),
+)
 
 mul-t22 : tie.Need-mul-t22
 mul-t22 c = search needs
@@ -65,11 +66,12 @@ add-t12 : tie.Need-add-t12
 add-t12 c = search needs
 
 returns-4 : tie.Need-returns-4
-returns-4 c =
-    ((marks-left-start _ _ _ (c .before .before .before .before .before .before .before .before .before .before .pre .1 .0) (c .before .before .before .before .before .before .before .before .before .before .pre .1 .1) (c .before .before .before .before .before .before .before .if1 .left) (c .before .before .before .before .before .if2 .left), omega (arith, c .before .if3 .left), refl),
-     λ used base nodes s l h. rw (c .before .before .larger .ensures)
-         (two-step used base nodes _ _ _ (c .before .before .before .before .before .before .before .before .before .before .pre .1 .0) (c .before .before .before .before .before .before .before .before .before .before .pre .1 .1) l _ _ s (c .before .before .before .before .before .before .before .if1 .left) (c .before .before .before .before .before .if2 .left) h (c .before .before .before .before .before .before .before .before .before .before .pre .0 .0) (c .before .before .before .before .before .before .before .before .before .before .pre .0 .1)
-         (rw (c .before .before .larger .ensures) at (c .before .if3 .left))))
+returns-4 c = (
+  (marks-left-start _ _ _ (c .before .before .before .before .before .before .before .before .before .before .pre .1 .0) (c .before .before .before .before .before .before .before .before .before .before .pre .1 .1) (c .before .before .before .before .before .before .before .if1 .left) (c .before .before .before .before .before .if2 .left), omega (arith, c .before .if3 .left), refl),
+  λ used base nodes s l h. rw (c .before .before .larger .ensures)
+      (two-step used base nodes _ _ _ (c .before .before .before .before .before .before .before .before .before .before .pre .1 .0) (c .before .before .before .before .before .before .before .before .before .before .pre .1 .1) l _ _ s (c .before .before .before .before .before .before .before .if1 .left) (c .before .before .before .before .before .if2 .left) h (c .before .before .before .before .before .before .before .before .before .before .pre .0 .0) (c .before .before .before .before .before .before .before .before .before .before .pre .0 .1)
+      (rw (c .before .before .larger .ensures) at (c .before .if3 .left))),
+)
 
 pub scan-two-spec : {M : Type 1} → statement M
 scan-two-spec =
