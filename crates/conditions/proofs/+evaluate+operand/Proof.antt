@@ -7,8 +7,26 @@ use lib.ListN.{getD}
 use Rattle.conditions.specs.Table.{nodeOf}
 use Rattle.conditions.proofs.Leaves.{leaf-node}
 use Rattle.conditions.proofs.Walk.{
-  in-table, deep, leaf-sound, leaf-answers, one-known, one-below, one-asks, one-refused, one-answers, two-below, left-asks, left-refused,
-  left-decided, right-asks, right-refused, join-asks, two-answers, one-lies, left-lies, two-lies
+  in-table,
+  deep,
+  leaf-sound,
+  leaf-answers,
+  one-known,
+  one-below,
+  one-asks,
+  one-refused,
+  one-answers,
+  two-below,
+  left-asks,
+  left-refused,
+  left-decided,
+  right-asks,
+  right-refused,
+  join-asks,
+  two-answers,
+  one-lies,
+  left-lies,
+  two-lies,
 }
 use Rattle.conditions.proofs.Lying.{lies-refused, lies-leaf}
 use Prim.Native.Nat.{ℕ, _<_, _*_, _+_}

@@ -1,0 +1,2 @@
+-- What the proofs use, here and above.
+pub mod Turns

@@ -1,0 +1,30 @@
+-- Cells from a place on: a turn of a loop over them, its end, and what cells that are not refused are. Assumes nothing.
+use mathlib.Core.Path.{_≡_, refl, sym, ap, _∙_}
+use mathlib.Core.List.{List, [], _∷_}
+use Prim.Native.Nat.{ℕ, zero, suc, _+_, _≤_, _<_}
+use native.Mathlib.Omega.{arith}
+use native.Mathlib.Numerals.{add-one}
+use lib.ListN.{length, drop, getD, drop-of-length-le}
+use lib.Seq.{drop-cons}
+use Rattle.refusals.specs.Stop.{Stop, never, orElse}
+use Rattle.refusals.proofs.First.{never-both}
+use Rattle.cells.specs.Cell.{cellStop, WellFormed}
+use Rattle.cells.proofs.Stops.{well-formed}
+use Rattle.checks.specs.Check.{cellsStop}
+
+module _ (used p : ℕ) where
+  pub cells-turn : (ws : List ℕ) (i : ℕ) → i < length ws
+      → cellsStop used p (drop i ws) ≡ orElse (cellStop used (getD ws i 0) p) (cellsStop used (suc p) (drop (i + 1) ws))
+  unfolding cellsStop
+  cells-turn ws i h = rw (drop-cons ws i 0 h, add-one i)
+
+  pub cells-end : (ws : List ℕ) (i : ℕ) → length ws ≤ i → cellsStop used p (drop i ws) ≡ never
+  unfolding cellsStop
+  cells-end ws i h = rw (drop-of-length-le ws h)
+
+-- cells that are not refused are well formed
+pub cells-sound : (used p : ℕ) (ws : List ℕ) → cellsStop used p ws ≡ never → (i : ℕ) → i < length ws → WellFormed used (getD ws i 0)
+unfolding cellsStop
+cells-sound used p [] h i l = absurd (let z : ⊥ = omega arith in z)
+cells-sound used p (w ∷ ws) h zero l = well-formed used w p (never-both (cellStop used w p) (cellsStop used (suc p) ws) h .0)
+cells-sound used p (w ∷ ws) h (suc i) l = cells-sound used (suc p) ws (never-both (cellStop used w p) (cellsStop used (suc p) ws) h .1) i (omega arith)
