@@ -14,6 +14,7 @@ use Rattle.conditions.specs.Ast.{Ast, height, size}
 use Rattle.forms.specs.Form.{Parsed, tree, refusal, Move, go, stop, nodeAt, finish, follow, parse, parsed}
 use Rattle.refusals.specs.Told.{told}
 use Rattle.refusals.specs.declared.Refusal.{Refusal}
+use Rattle.nodes.specs.Kind.{leafWord}
 use Rattle.nodes.specs.declared.Allowed.{Allowed}
 use Rattle.forms.specs.Held.{Denotes, Held, Marks, StepIs, StepFine, ScanIs}
 use Rattle.forms.specs.declared.Step.{Step}
@@ -25,6 +26,8 @@ pub record Scanning (form : Allowed) (used : ℕ) (b nodes starts deeps : List �
   pub long : length nodes ≡ 64
   pub few : n ≤ 64
   pub inside : at ≤ length b
+  pub origin : n ≡ 0 → at ≡ 0
+  pub first : 0 < n → getD nodes 0 0 ≡ leafWord b 0 (getD b 0 0)
   pub marks : Marks starts deeps n
   pub same : (base : List ℕ) → (s : List Ast) × Held used base nodes starts deeps n s × (parsed form used base b ≡ parse form used base b (64 - n) at s)
 
@@ -34,6 +37,8 @@ scan-start form used b nodes starts deeps h k l = record {
   long = h;
   few = omega arith;
   inside = omega arith;
+  origin = λ z. refl;
+  first = λ z. absurd (omega arith);
   marks = record { starts-long = k; deeps-long = l; below = λ i q. absurd (omega arith); shallow = λ i q. absurd (omega arith) };
   same = λ base. ([], refl, refl);
 }
@@ -75,7 +80,7 @@ module _ (form : Allowed) (used : ℕ) (b nodes starts deeps : List ℕ) (n at :
         let q : 64 - n ≡ suc (64 - (n + 1)) = omega (arith, small) in
         S .same base .2 ∙ ap (λ f. parse form used base b f at (S .same base .0)) q ∙ parse-more form used base b (64 - (n + 1)) at (S .same base .0) h
 
-    module _ (r : Step) (fine : StepFine at n (length b) r)
+    module _ (r : Step) (fine : StepFine at n b r)
         (is : (base nodes : List ℕ) (s : List Ast) → length nodes ≡ 64 → Held used base nodes starts deeps n s → StepIs used base nodes starts deeps n r (nodeAt form used base b at (getD b at 0) s)) where
       pub scan-refused : (x : Refusal) → r ≡ Refused x → (base : List ℕ) → parsed form used base b ≡ refusal (told x .number) (told x .place)
       scan-refused x p base =
@@ -84,17 +89,29 @@ module _ (form : Allowed) (used : ℕ) (b nodes starts deeps : List ℕ) (n at :
           next-is base ∙ rw (m, f)
 
       module _ (w a d next : ℕ) (p : r ≡ Took w a d next) where
-        goes : (a ≤ n) × (d ≤ 16) × (at < next) × (next ≤ length b)
+        goes : (a ≤ n) × (d ≤ 16) × (at < next) × (next ≤ length b) × (n ≡ 0 → w ≡ leafWord b at (getD b at 0))
         goes = rw p at fine
 
         pub scan-less : length b - next < length b - at
         scan-less = omega (arith, goes .2, goes .3)
+
+        -- the first word is the first leaf's: it is stored now, or was before
+        first-word : getD (set nodes n w) 0 0 ≡ leafWord b 0 (getD b 0 0)
+        first-word = by n refl
+          where
+            by : (m : ℕ) → n ≡ m → getD (set nodes n w) 0 0 ≡ leafWord b 0 (getD b 0 0)
+            by zero z =
+                let a = S .origin z in
+                ap (λ i. getD (set nodes i w) 0 0) z ∙ getD-set-same nodes 0 w 0 (omega (arith, S .long)) ∙ goes .4 z ∙ ap (λ i. leafWord b i (getD b i 0)) a
+            by (suc m) z = getD-set-other nodes n 0 w 0 (omega arith) ∙ S .first (omega arith)
 
         pub scan-more : Scanning form used b (set nodes n w) (set starts n a) (set deeps n d) (n + 1) next
         scan-more = record {
           long = simp length-set (S .long);
           few = omega (arith, small);
           inside = goes .3;
+          origin = λ z. absurd (omega arith);
+          first = λ z. first-word;
           marks = record {
             starts-long = simp length-set (S .marks .starts-long);
             deeps-long = simp length-set (S .marks .deeps-long);
@@ -128,14 +145,14 @@ module _ (form : Allowed) (used : ℕ) (b nodes starts deeps : List ℕ) (n at :
         by (t ∷ []) d = absurd (f (unfold Held in (d .4)))
         by (t ∷ (u ∷ s)) d = refl
 
-    pub scan-one : (n ≡ 0 → ⊥) → getD starts (n - 1) 0 ≡ 0 → (base : List ℕ) → ScanIs used base nodes (Table n) (parsed form used base b)
+    pub scan-one : (n ≡ 0 → ⊥) → getD starts (n - 1) 0 ≡ 0 → (base : List ℕ) → ScanIs used base b nodes (Table n) (parsed form used base b)
     scan-one e f base = by (S .same base .0) (S .same base .1) (ended base)
       where
-        by : (s : List Ast) → Held used base nodes starts deeps n s → parsed form used base b ≡ finish s at → ScanIs used base nodes (Table n) (parsed form used base b)
+        by : (s : List Ast) → Held used base nodes starts deeps n s → parsed form used base b ≡ finish s at → ScanIs used base b nodes (Table n) (parsed form used base b)
         by [] d q = absurd (e (unfold Held in d))
         by (t ∷ []) d q =
             let z : 0 < n = pos-of-ne-zero e in
             let u : getD starts (n - 1) 0 + size t ≡ n = unfold Held in (d .1) in
             let v : getD deeps (n - 1) 0 ≡ height t = unfold Held in (d .2) in
-            (t, q, z, omega arith, S .few, omega (arith, S .marks .shallow (n - 1) (omega arith)), unfold Held in (d .3))
+            (t, q, z, omega arith, S .few, omega (arith, S .marks .shallow (n - 1) (omega arith)), unfold Held in (d .3), S .first z)
         by (t ∷ (u ∷ s)) d q = absurd (let z : 0 < getD starts (n - 1) 0 = unfold Held in (d .4 .0) in omega arith)

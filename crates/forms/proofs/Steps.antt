@@ -19,9 +19,9 @@ use Rattle.forms.specs.declared.Step.the-variants.{Took, Refused}
 use Rattle.forms.proofs.Stack.{leaf-held}
 use Rattle.forms.proofs.Words.{fine}
 
-pub fine-step : (at n next size : ℕ) (r : Step) → at < next → next ≤ size → OperatorFine at n next r → StepFine at n size r
-fine-step at n next size (Took w a e after) l h f = (f .0, f .1, rw (f .2) l, rw (f .2) h)
-fine-step at n next size (Refused r) l h f = f
+pub fine-step : (at n next : ℕ) (b : List ℕ) (r : Step) → at < next → next ≤ length b → OperatorFine at n next r → StepFine at n b r
+fine-step at n next b (Took w a e after) l h f = (f .0, f .1, rw (f .2) l, rw (f .2) h, λ z. absurd (f .3 z))
+fine-step at n next b (Refused r) l h f = f
 
 module _ (form : Allowed) (used at : ℕ) (b : List ℕ) (k : ℕ) (e : k ≡ getD b at 0) (base : List ℕ) (s : List Ast) where
   pub unknown : known form k ≡ false → nodeAt form used base b at (getD b at 0) s ≡ stop 1

@@ -7,6 +7,7 @@ use lib.ListN.{length, getD, set}
 use lib.Dec.{eqb}
 use Rattle.refusals.specs.Told.{told}
 use Rattle.cells.specs.Cell.{WellFormed, startOf, lengthOf}
+use Rattle.nodes.specs.Kind.{leafWord}
 use Rattle.conditions.specs.Ast.{Ast, literal, column, named, unary, binary, height, size}
 use Rattle.conditions.specs.Table.{nodeOf, leafOf}
 use Rattle.conditions.specs.declared.Node.the-variants.{Leaf, One, Two}
@@ -52,17 +53,19 @@ StepIs used base nodes starts deeps n (Took word start deep next) m =
     (t : Ast) × (s : List Ast) × (m ≡ go (t ∷ s) next) × Held used base (set nodes n word) (set starts n start) (set deeps n deep) (n + 1) (t ∷ s)
 StepIs used base nodes starts deeps n (Refused r) m = m ≡ stop (told r .number)
 
--- and as numbers: it goes on, within the bytes, or is refused at this offset
-abbrev pub StepFine : ℕ → ℕ → ℕ → Step → Type 0
-StepFine at n size (Took word start deep next) = (start ≤ n) × (deep ≤ 16) × (at < next) × (next ≤ size)
-StepFine at n size (Refused r) = told r .place ≡ at
+-- and as numbers: it goes on, within the bytes, or is refused at this offset; the first node is a leaf, and its word is read off the bytes
+abbrev pub StepFine : ℕ → ℕ → List ℕ → Step → Type 0
+StepFine at n b (Took word start deep next) =
+    (start ≤ n) × (deep ≤ 16) × (at < next) × (next ≤ length b) × (n ≡ 0 → word ≡ leafWord b at (getD b at 0))
+StepFine at n b (Refused r) = told r .place ≡ at
 
 abbrev pub OperatorFine : ℕ → ℕ → ℕ → Step → Type 0
-OperatorFine at n next (Took word start deep after) = (start ≤ n) × (deep ≤ 16) × (after ≡ next)
+OperatorFine at n next (Took word start deep after) = (start ≤ n) × (deep ≤ 16) × (after ≡ next) × (n ≡ 0 → ⊥)
 OperatorFine at n next (Refused r) = told r .place ≡ at
 
--- what the whole scan says of the definition
-abbrev pub ScanIs : ℕ → List ℕ → List ℕ → Scanned → Parsed → Type 0
-ScanIs used base nodes (Table n) p =
+-- what the whole scan says of the definition; the first word of the table is that of the first leaf
+abbrev pub ScanIs : ℕ → List ℕ → List ℕ → List ℕ → Scanned → Parsed → Type 0
+ScanIs used base b nodes (Table n) p =
     (t : Ast) × (p ≡ tree t) × (0 < n) × (size t ≡ n) × (n ≤ 64) × (height t ≤ 16) × Denotes used base nodes (n - 1) t
-ScanIs used base nodes (Denied r) p = p ≡ refusal (told r .number) (told r .place)
+    × (getD nodes 0 0 ≡ leafWord b 0 (getD b 0 0))
+ScanIs used base b nodes (Denied r) p = p ≡ refusal (told r .number) (told r .place)

@@ -93,7 +93,7 @@ fn scan_node(
     n: usize,
 ) -> Step
     requires { ⌜ (at < length (now b)) × ((n < 64) × Marks (now starts) (now deeps) n) ⌝ }
-    ensures fine { λ r. ⌜ StepFine at n (length (now (b .entry))) r ⌝ }
+    ensures fine { λ r. ⌜ StepFine at n (now (b .entry)) r ⌝ }
     ensures is { λ r. ⌜ ((base nodes : List ℕ) (s : List Ast) → length nodes ≡ 64 → Held used base nodes (now (starts .entry)) (now (deeps .entry)) n s →
         StepIs used base nodes (now (starts .entry)) (now (deeps .entry)) n r (nodeAt form used base (now (b .entry)) at (getD (now (b .entry)) at 0) s)) ⌝ }
 {
@@ -126,7 +126,7 @@ fn scan_node(
 // The whole scan: the table of nodes, or the first refusal.
 pub fn scan(form: Allowed, b: &[u8], used: usize, nodes: &mut [u64]) -> Scanned
     requires { ⌜ length (now nodes) ≡ 64 ⌝ }
-    ensures { λ r. ⌜ ((base : List ℕ) → ScanIs used base (now (nodes .exit)) r (parsed form used base (now (b .entry)))) ⌝ }
+    ensures { λ r. ⌜ ((base : List ℕ) → ScanIs used base (now (b .entry)) (now (nodes .exit)) r (parsed form used base (now (b .entry)))) ⌝ }
 {
     let mut starts = [0usize; 64];
     let mut deeps = [0usize; 64];

@@ -50,10 +50,11 @@ loop-less c = search needs
 
 loop-again : tie.Need-loop-again Inv-loop μ-loop
 loop-again c =
-    let e : suc (c .before .before .before .before .before .before .before .args .place + c .before .before .before .before .before .loop .i) ≡ c .before .before .before .before .before .before .before .args .place + (c .before .before .before .before .before .loop .i + 1) = omega arith in
-    (search needs,
-     c .before .before .before .before .before .loop .inv .1 ∙ cells-turn _ _ _ _ (c .before .before .before .before .loop-test .taken) ∙ sound-first _ _ _ (c .enum-told .given .1) (c .before .before .check-cell .ensures)
-         ∙ ap (λ p. cellsStop (c .before .before .before .before .before .before .before .args .used) p (drop (c .before .before .before .before .before .loop .i + 1) (c .before .before .before .before .before .before .before .args .words .now))) e)
+    let e : suc (c .before .before .before .before .before .before .before .args .place + c .before .before .before .before .before .loop .i) ≡ c .before .before .before .before .before .before .before .args .place + (c .before .before .before .before .before .loop .i + 1) = omega arith in (
+      search needs,
+      c .before .before .before .before .before .loop .inv .1 ∙ cells-turn _ _ _ _ (c .before .before .before .before .loop-test .taken) ∙ sound-first _ _ _ (c .enum-told .given .1) (c .before .before .check-cell .ensures)
+          ∙ ap (λ p. cellsStop (c .before .before .before .before .before .before .before .args .used) p (drop (c .before .before .before .before .before .loop .i + 1) (c .before .before .before .before .before .before .before .args .words .now))) e,
+    )
 
 returns-2 : tie.Need-returns-2 Inv-loop μ-loop
 returns-2 c = sym (c .before .loop .inv .1 ∙ cells-end _ _ _ _ (c .loop-test .left))

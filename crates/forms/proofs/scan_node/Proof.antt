@@ -1,11 +1,10 @@
 -- `forms::scan_node` meets its contract. Assumes nothing.
 use mathlib.Core.Path.{_≡_, refl, sym, ap, _∙_}
 use Prim.Native.Nat.{_+_}
-use lib.ListN.{length}
 use lib.Dec.{lit≤}
 use denote.Ref.{now}
 use borrow.Author.Tests.{not-true, not-false}
-use Rattle.nodes.specs.Kind.{bodyOf}
+use Rattle.nodes.specs.Kind.{bodyOf, leafWord}
 use Rattle.nodes.proofs.Bodies.{known-below, known-one}
 use Rattle.forms.proofs.Steps.{fine-step, unknown, cut, text-out, leaf-step, two-is, one-is}
 use native.Mathlib.Omega.{arith}
@@ -52,7 +51,7 @@ scan-two-requires c κs = ((c .if3 .taken, known-below _ _ (sym (c .before .befo
 
 returns-3 : tie.Need-returns-3
 returns-3 c = (
-  fine-step (c .before .before .before .before .before .before .before .before .before .before .before .args .at) (c .before .before .before .before .before .before .before .before .before .before .before .args .n) (c .before .before .before .before .before .before .before .before .before .before .before .args .at + 1 + c .before .before .before .body-of .result) (length (now (c .before .before .before .before .before .before .before .before .before .before .before .args .b))) (c .scan-two .result) (omega arith)
+  fine-step (c .before .before .before .before .before .before .before .before .before .before .before .args .at) (c .before .before .before .before .before .before .before .before .before .before .before .args .n) (c .before .before .before .before .before .before .before .before .before .before .before .args .at + 1 + c .before .before .before .body-of .result) (now (c .before .before .before .before .before .before .before .before .before .before .before .args .b)) (c .scan-two .result) (omega arith)
       (omega (arith, c .before .before .if2 .left, c .before .before .before .before .before .before .before .before .before .before .before .pre .0)) (c .scan-two .ensures .0),
   λ base nodes s l h. two-is (c .before .before .before .before .before .before .before .before .before .before .before .args .form) (c .before .before .before .before .before .before .before .before .before .before .before .args .used) (c .before .before .before .before .before .before .before .before .before .before .before .args .at) (now (c .before .before .before .before .before .before .before .before .before .before .before .args .b)) (c .before .before .before .before .before .before .wide .result) (c .before .before .before .before .before .before .wide .ensures .0) base s
       (sym (c .before .before .before .before .before .is-known .ensures) ∙ not-false _ (c .before .before .before .before .if1 .left))
@@ -65,7 +64,7 @@ scan-one-requires c κs = ((c .if4 .taken, known-one _ _ (sym (c .before .before
 
 returns-4 : tie.Need-returns-4
 returns-4 c = (
-  fine-step (c .before .before .before .before .before .before .before .before .before .before .before .before .args .at) (c .before .before .before .before .before .before .before .before .before .before .before .before .args .n) (c .before .before .before .before .before .before .before .before .before .before .before .before .args .at + 1 + c .before .before .before .before .body-of .result) (length (now (c .before .before .before .before .before .before .before .before .before .before .before .before .args .b))) (c .scan-one .result) (omega arith)
+  fine-step (c .before .before .before .before .before .before .before .before .before .before .before .before .args .at) (c .before .before .before .before .before .before .before .before .before .before .before .before .args .n) (c .before .before .before .before .before .before .before .before .before .before .before .before .args .at + 1 + c .before .before .before .before .body-of .result) (now (c .before .before .before .before .before .before .before .before .before .before .before .before .args .b)) (c .scan-one .result) (omega arith)
       (omega (arith, c .before .before .before .if2 .left, c .before .before .before .before .before .before .before .before .before .before .before .before .pre .0)) (c .scan-one .ensures .0),
   λ base nodes s l h. one-is (c .before .before .before .before .before .before .before .before .before .before .before .before .args .form) (c .before .before .before .before .before .before .before .before .before .before .before .before .args .used) (c .before .before .before .before .before .before .before .before .before .before .before .before .args .at) (now (c .before .before .before .before .before .before .before .before .before .before .before .before .args .b)) (c .before .before .before .before .before .before .before .wide .result) (c .before .before .before .before .before .before .before .wide .ensures .0) base s
       (sym (c .before .before .before .before .before .before .is-known .ensures) ∙ not-false _ (c .before .before .before .before .before .if1 .left))
@@ -90,7 +89,7 @@ leaf-word-requires c κs =
 
 returns-6 : tie.Need-returns-6
 returns-6 c = (
-  (omega arith, lit≤ tt, omega arith, omega (arith, c .before .before .before .before .before .if2 .left, c .before .before .before .before .before .before .before .before .before .before .before .before .before .before .pre .0)),
+  (omega arith, lit≤ tt, omega arith, omega (arith, c .before .before .before .before .before .if2 .left, c .before .before .before .before .before .before .before .before .before .before .before .before .before .before .pre .0), λ z. c .leaf-word .ensures ∙ ap (leafWord (now (c .before .before .before .before .before .before .before .before .before .before .before .before .before .before .args .b)) (c .before .before .before .before .before .before .before .before .before .before .before .before .before .before .args .at)) (c .before .before .before .before .before .before .before .before .before .wide .ensures .0)),
   λ base nodes s l h. leaf-step _ _ _ _ _ (c .before .before .before .before .before .before .before .before .before .wide .ensures .0) base s (sym (c .before .before .before .before .before .before .before .before .is-known .ensures) ∙ not-false _ (c .before .before .before .before .before .before .before .if1 .left))
       (let q : c .before .before .before .before .before .before .body-of .result ≡ bodyOf (c .before .before .before .before .before .before .before .before .before .wide .result) = c .before .before .before .before .before .before .body-of .ensures in omega (arith, c .before .before .before .before .before .if2 .left, c .before .before .before .before .before .before .before .before .before .before .before .before .before .before .pre .0))
       nodes _ _ _ _ _ (c .before .before .before .before .before .before .before .before .before .before .before .before .before .before .pre .1 .0) (c .before .before .before .before .before .before .before .before .before .before .before .before .before .before .pre .1 .1) l (λ i. c .before .before .before .before .before .before .before .before .before .before .shared-slice-known4 .given i .fits) (c .before .before .before .if4 .left) (sym (c .before .before .text-fits .ensures) ∙ not-false _ (c .before .if5 .left))

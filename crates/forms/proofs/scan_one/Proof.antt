@@ -38,7 +38,7 @@ add-t12 c = search needs
 
 returns-3 : tie.Need-returns-3
 returns-3 c = (
-  (marks-start _ _ _ (c .before .before .before .before .pre .1 .1) (c .before .before .before .if1 .left), omega (arith, c .if2 .left), refl),
+  (marks-start _ _ _ (c .before .before .before .before .pre .1 .1) (c .before .before .before .if1 .left), omega (arith, c .if2 .left), refl, c .before .before .before .if1 .left),
   λ used base nodes s l h. one-step used base nodes _ _ _ (c .before .before .before .before .pre .1 .0) (c .before .before .before .before .pre .1 .1) l _ _ s (c .before .before .before .before .pre .0 .0) (c .before .before .before .before .pre .0 .1) (c .before .before .before .if1 .left) (c .if2 .left) h,
 )
 

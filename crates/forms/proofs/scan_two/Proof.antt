@@ -67,7 +67,7 @@ add-t12 c = search needs
 
 returns-4 : tie.Need-returns-4
 returns-4 c = (
-  (marks-left-start _ _ _ (c .before .before .before .before .before .before .before .before .before .before .pre .1 .0) (c .before .before .before .before .before .before .before .before .before .before .pre .1 .1) (c .before .before .before .before .before .before .before .if1 .left) (c .before .before .before .before .before .if2 .left), omega (arith, c .before .if3 .left), refl),
+  (marks-left-start _ _ _ (c .before .before .before .before .before .before .before .before .before .before .pre .1 .0) (c .before .before .before .before .before .before .before .before .before .before .pre .1 .1) (c .before .before .before .before .before .before .before .if1 .left) (c .before .before .before .before .before .if2 .left), omega (arith, c .before .if3 .left), refl, c .before .before .before .before .before .before .before .if1 .left),
   λ used base nodes s l h. rw (c .before .before .larger .ensures)
       (two-step used base nodes _ _ _ (c .before .before .before .before .before .before .before .before .before .before .pre .1 .0) (c .before .before .before .before .before .before .before .before .before .before .pre .1 .1) l _ _ s (c .before .before .before .before .before .before .before .if1 .left) (c .before .before .before .before .before .if2 .left) h (c .before .before .before .before .before .before .before .before .before .before .pre .0 .0) (c .before .before .before .before .before .before .before .before .before .before .pre .0 .1)
       (rw (c .before .before .larger .ensures) at (c .before .if3 .left))),
