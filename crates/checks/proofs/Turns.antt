@@ -6,11 +6,14 @@ use native.Mathlib.Omega.{arith}
 use native.Mathlib.Numerals.{add-one}
 use lib.ListN.{length, drop, getD, drop-of-length-le}
 use lib.Seq.{drop-cons}
-use Rattle.refusals.specs.Stop.{Stop, never, orElse}
+use mathlib.Core.Bool.{Bool, true, false}
+use lib.Dec.{ltb}
+use borrow.Author.Tests.{ltb-false}
+use Rattle.refusals.specs.Stop.{Stop, never, stopIf, orElse}
 use Rattle.refusals.proofs.First.{never-both}
 use Rattle.cells.specs.Cell.{cellStop, WellFormed}
 use Rattle.cells.proofs.Stops.{well-formed}
-use Rattle.checks.specs.Check.{cellsStop}
+use Rattle.checks.specs.Check.{roomStop, cellsStop}
 
 module _ (used p : ℕ) where
   pub cells-turn : (ws : List ℕ) (i : ℕ) → i < length ws
@@ -28,3 +31,15 @@ unfolding cellsStop
 cells-sound used p [] h i l = absurd (let z : ⊥ = omega arith in z)
 cells-sound used p (w ∷ ws) h zero l = well-formed used w p (never-both (cellStop used w p) (cellsStop used (suc p) ws) h .0)
 cells-sound used p (w ∷ ws) h (suc i) l = cells-sound used (suc p) ws (never-both (cellStop used w p) (cellsStop used (suc p) ws) h .1) i (omega arith)
+
+-- room that is not refused is there
+pub room-there : (needed size used : ℕ) → roomStop needed size used ≡ never → (size ≤ 65536) × (used + needed ≤ size)
+unfolding roomStop
+room-there needed size used h = go (ltb 65536 size) (ltb size used) (ltb size (used + needed)) refl refl h
+  where
+    go : (a b c : Bool) → ltb 65536 size ≡ a → ltb size (used + needed) ≡ c
+        → orElse (stopIf a 10 0) (orElse (stopIf b 10 0) (orElse (stopIf c 10 0) never)) ≡ never → (size ≤ 65536) × (used + needed ≤ size)
+    go true b c e f h = absurd (let z : _≡_ {A = ℕ} 0 1 = cc in omega arith)
+    go false true c e f h = absurd (let z : _≡_ {A = ℕ} 0 1 = cc in omega arith)
+    go false false true e f h = absurd (let z : _≡_ {A = ℕ} 0 1 = cc in omega arith)
+    go false false false e f h = (ltb-false 65536 size e, ltb-false size (used + needed) f)
