@@ -3,3 +3,4 @@ pub mod Numbers
 pub mod Stopping
 pub mod Narrowing
 pub mod Whole
+pub mod Unique
