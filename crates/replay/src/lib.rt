@@ -125,6 +125,35 @@ pub fn answer(case: &[u8], at: usize) -> Expected
     }
 }
 
+// The text as lent: the stored bytes, and rubbish above them.
+pub fn lend(text: &mut [u8], stored: &[u8], rubbish: u64)
+    requires { ⌜ length (now stored) ≤ length (now text) ⌝ }
+    ensures { λ _. ⌜ length (now (text .exit)) ≡ length (now (text .entry)) ⌝ }
+{
+    let mut i: usize = 0;
+    while i < text.len() {
+        text[i] = ((i as u64 % 1000 * 7 + rubbish % 1000) % 256) as u8;
+        i += 1;
+    }
+    slices::copy_bytes(stored, text, 0);
+}
+
+// Whether a word is the text expected, computed above the mark.
+pub fn holds_text(word: u64, text: &[u8], used: usize, content: &[u8]) -> bool {
+    let start = (word / 65536 % 0x1_0000_0000) as usize;
+    let end = start + (word % 65536) as usize;
+    if word / 0x100_0000_0000_0000 != 2 {
+        return false;
+    }
+    if start < used {
+        return false;
+    }
+    if text.len() < end {
+        return false;
+    }
+    slices::equal_bytes(&text[start..end], content)
+}
+
 // Reads the next case from standard input into the start of space, and answers its length, or 0 at the end.
 pub fn next_case(space: &mut [u8]) -> usize
     ensures { λ r. ⌜ (r ≤ length (now (space .exit))) × (length (now (space .exit)) ≡ length (now (space .entry))) ⌝ }

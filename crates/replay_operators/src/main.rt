@@ -118,35 +118,6 @@ fn computed(condition: &[u8], row: &[u64], text: &mut [u8], used: usize) -> Answ
     two_sided(condition[last] as u64, a.word, b.word, text, used)
 }
 
-// The text as lent: the stored bytes, and rubbish above them.
-fn lend(text: &mut [u8], stored: &[u8], rubbish: u64)
-    requires { ⌜ length (now stored) ≤ length (now text) ⌝ }
-    ensures { λ _. ⌜ length (now (text .exit)) ≡ length (now (text .entry)) ⌝ }
-{
-    let mut i: usize = 0;
-    while i < text.len() {
-        text[i] = ((i as u64 % 1000 * 7 + rubbish % 1000) % 256) as u8;
-        i += 1;
-    }
-    slices::copy_bytes(stored, text, 0);
-}
-
-// Whether a word is the text expected, computed above the mark.
-fn holds_text(word: u64, text: &[u8], used: usize, content: &[u8]) -> bool {
-    let start = (word / 65536 % 0x1_0000_0000) as usize;
-    let end = start + (word % 65536) as usize;
-    if word / 0x100_0000_0000_0000 != 2 {
-        return false;
-    }
-    if start < used {
-        return false;
-    }
-    if text.len() < end {
-        return false;
-    }
-    slices::equal_bytes(&text[start..end], content)
-}
-
 // Whether an answer is the one expected, and the stored text as it was.
 fn agrees(answer: Answer, e: Expected, text: &[u8], stored: &[u8], content: &[u8]) -> bool
     requires { ⌜ length (now stored) ≤ length (now text) ⌝ }
@@ -161,7 +132,7 @@ fn agrees(answer: Answer, e: Expected, text: &[u8], stored: &[u8], content: &[u8
                 return false;
             }
             if e.value / 65536 == 0x200_ffff_ffff {
-                return holds_text(word, text, used, content);
+                return replay::holds_text(word, text, used, content);
             }
             word == e.value
         }
@@ -187,7 +158,7 @@ fn called(
     if text.len() < used {
         return false;
     }
-    lend(text, stored, rubbish);
+    replay::lend(text, stored, rubbish);
     let answer = computed(condition, row, text, used);
     agrees(answer, e, text, stored, content)
 }

@@ -1,4 +1,4 @@
-//! Evaluation on one row, and `with`.
+//! Evaluation on one row, and `with`: a layer each.
 
 use super::faults;
 use super::nodes::{self, *};
@@ -7,26 +7,41 @@ use super::spoil;
 use crate::call::{Call, Text, EVALUATE, WITH};
 use crate::random::Random;
 
-const EVALUATIONS: usize = 14_720;
+const EVALUATIONS: usize = 11_500;
+const SOUND_EVALUATIONS: usize = 13_500;
 const JOINED: usize = 900;
 
 pub fn calls(random: &mut Random) -> Vec<Call> {
     let mut calls = Vec::new();
     for condition in forms() {
         calls.push(evaluate(&condition, &[int_word(3), 0]));
-        calls.push(with(&[], &condition));
-        calls.push(with(&condition, &[0]));
-        calls.push(with(&nodes::int(9), &condition));
     }
     calls.extend(refused_first());
     calls.extend(short_circuits());
     calls.extend(super::operators::deciding());
     calls.extend(texts_and_marks());
     calls.extend(row_lengths());
-    calls.extend(wholes());
     for _ in 0..EVALUATIONS {
         calls.push(random_evaluation(random));
     }
+    for _ in 0..SOUND_EVALUATIONS {
+        calls.push(sound_evaluation(random));
+    }
+    calls
+}
+
+pub fn calls_of_with(random: &mut Random) -> Vec<Call> {
+    let mut calls = Vec::new();
+    for condition in forms() {
+        calls.push(with(&[], &condition));
+        calls.push(with(&condition, &[0]));
+        calls.push(with(&nodes::int(9), &condition));
+    }
+    for text in [texts_at_bounds(b"abc"), texts_at_bounds(b"")].concat() {
+        calls.push(Call::new(WITH).bytes([0]).bytes([0]).text(text.clone()).bytes_out(448));
+        calls.push(Call::new(WITH).bytes([9]).bytes([9]).text(text).bytes_out(448));
+    }
+    calls.extend(wholes());
     for _ in 0..JOINED {
         calls.push(random_with(random));
     }
@@ -180,9 +195,7 @@ fn texts_and_marks() -> Vec<Call> {
     for text in [texts_at_bounds(b"abc"), texts_at_bounds(b"")].concat() {
         let condition = binary(PLUS, &nodes::text(0, 0), &nodes::text(0, 0));
         calls.push(Call::new(EVALUATE).bytes(condition).words([0]).text(text.clone()));
-        calls.push(Call::new(EVALUATE).bytes([9]).words([]).text(text.clone()));
-        calls.push(Call::new(WITH).bytes([0]).bytes([0]).text(text.clone()).bytes_out(448));
-        calls.push(Call::new(WITH).bytes([9]).bytes([9]).text(text).bytes_out(448));
+        calls.push(Call::new(EVALUATE).bytes([9]).words([]).text(text));
     }
     // Nearly all of the room: 28 joins of about 1,010 bytes.
     let most = Text { length: 1010 + ROOM, used: 1010, stored: vec![b'k'; 1010] };
@@ -260,6 +273,12 @@ fn wholes() -> Vec<Call> {
 }
 
 pub fn random_evaluation(random: &mut Random) -> Call {
+    let mut call = sound_evaluation(random);
+    spoil::sometimes(random, &mut call);
+    call
+}
+
+fn sound_evaluation(random: &mut Random) -> Call {
     let mut scene = Scene::new(random);
     let width = scene.random.pick(&[1, 1, 1, 1, 2, 2, 3]);
     let kinds: Vec<u64> = (0..width).map(|_| scene.any_kind()).collect();
@@ -277,9 +296,7 @@ pub fn random_evaluation(random: &mut Random) -> Call {
         scene.text.clear();
     }
     let text = scene.text_with_room();
-    let mut call = Call::new(EVALUATE).bytes(condition).words(row).text(text);
-    spoil::sometimes(random, &mut call);
-    call
+    Call::new(EVALUATE).bytes(condition).words(row).text(text)
 }
 
 fn speaks_of_text(condition: &[u8], row: &[u64]) -> bool {

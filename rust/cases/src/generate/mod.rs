@@ -41,11 +41,7 @@ const fn layer(
 pub const LAYERS: &[Layer] = &[
     layer("values", values::calls, &[values::random_compare, values::random_find]),
     layer("operators", operators::calls, &[]),
-    layer(
-        "conditions",
-        conditions::calls,
-        &[conditions::random_evaluation, conditions::random_with],
-    ),
+    layer("conditions", conditions::calls, &[conditions::random_evaluation]),
     layer("fold", folding::calls, &[folding::random_fold]),
     layer("bind", binding::calls, &[binding::random_bind]),
     layer("print", printing::calls, &[printing::random_print, printing::random_value]),
@@ -53,4 +49,5 @@ pub const LAYERS: &[Layer] = &[
     layer("rows", rows::calls, &[rows::random_call]),
     layer("joins", joins::calls, &[joins::random_join]),
     layer("insert", inserting::calls, &[inserting::random_insert]),
+    layer("with", conditions::calls_of_with, &[conditions::random_with]),
 ];

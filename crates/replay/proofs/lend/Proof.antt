@@ -4,8 +4,8 @@ use Prim.Native.Nat.{_≤_, _-_}
 use lib.ListN.{length, length-set}
 use Rattle.slices.proofs.Splice.{wrote-length}
 use borrow.Author.Needs.{needs}
-use Rattle.replay_operators.proofs.lend.Statement.{statement}
-use Rattle.replay_operators.proofs.lend.Tie as tie
+use Rattle.replay.proofs.lend.Statement.{statement}
+use Rattle.replay.proofs.lend.Tie as tie
 
 abbrev Inv-loop : tie.InvT-loop
 Inv-loop text₀ stored rubbish i₀ text i = (i ≤ length text) × (length text ≡ length text₀)

@@ -1,0 +1,122 @@
+// Replays the recorded cases of evaluation (docs/CASES.md, call 18) from standard input.
+ghost use mathlib.Core.Path.{_≡_};
+ghost use Prim.Native.Nat.{_≤_};
+ghost use lib.ListN.{length};
+use evaluation::Evaluated;
+use replay::Expected;
+
+// Whether an answer is the one expected, and the stored text as it was.
+fn agrees(answer: Evaluated, e: Expected, text: &[u8], stored: &[u8], content: &[u8]) -> bool
+    requires { ⌜ length (now stored) ≤ length (now text) ⌝ }
+{
+    let used = stored.len();
+    if !slices::equal_bytes(&text[..used], stored) {
+        return false;
+    }
+    match answer {
+        Evaluated::Cell(word) => {
+            if e.number != 0 {
+                return false;
+            }
+            if e.value / 65536 == 0x200_ffff_ffff {
+                return replay::holds_text(word, text, used, content);
+            }
+            word == e.value
+        }
+        Evaluated::Refused(r) => r.number() == e.number && r.place() as u64 == e.place,
+    }
+}
+
+// Whether the call gives the answer expected, with the text above the mark filled with this rubbish.
+fn called(
+    condition: &[u8],
+    row: &[u64],
+    stored: &[u8],
+    content: &[u8],
+    e: Expected,
+    text: &mut [u8],
+    used: usize,
+    rubbish: u64,
+) -> bool
+    ensures { λ _. ⌜ length (now (text .exit)) ≡ length (now (text .entry)) ⌝ }
+{
+    if text.len() < stored.len() {
+        return false;
+    }
+    replay::lend(text, stored, rubbish);
+    let answer = evaluation::evaluate(condition, row, text, used);
+    agrees(answer, e, text, stored, content)
+}
+
+// One case.
+fn replays(case: &[u8], text: &mut [u8], rubbish: u64) -> bool
+    ensures { λ _. ⌜ length (now (text .exit)) ≡ length (now (text .entry)) ⌝ }
+{
+    if case.len() < 4 {
+        return false;
+    }
+    if case[0] != 18 {
+        return false;
+    }
+    let condition = replay::bytes(case, 4);
+    let from = condition.start;
+    let to = from + condition.count;
+    let mut space = [0u64; 64];
+    let row = replay::words(case, condition.next, &mut space);
+    let cells = row.count;
+    let size = replay::four(case, row.next) as usize;
+    if text.len() < size {
+        return false;
+    }
+    let used = replay::eight(case, row.next + 4) as usize;
+    let stored = replay::bytes(case, replay::after(case, row.next, 12));
+    let start = stored.start;
+    let end = start + stored.count;
+    let e = replay::answer(case, stored.next);
+    let content = replay::bytes(case, replay::after(case, stored.next, 36));
+    let first = content.start;
+    let last = first + content.count;
+    called(
+        &case[from..to],
+        &space[..cells],
+        &case[start..end],
+        &case[first..last],
+        e,
+        &mut text[..size],
+        used,
+        rubbish,
+    )
+}
+
+// 1 where the case of this number differs under either rubbish, which is told, else 0.
+fn difference(case: &[u8], text: &mut [u8], number: u64) -> u64
+    ensures { λ r. ⌜ (r ≤ 1) × (length (now (text .exit)) ≡ length (now (text .entry))) ⌝ }
+{
+    let one = replays(case, text, number % 1000);
+    let two = replays(case, text, 77 + number % 1000);
+    if one {
+        if two {
+            return 0;
+        }
+    }
+    replay::tell(number);
+    1
+}
+
+fn main() {
+    let mut space = [0u8; 262144];
+    let buffer: &mut [u8] = &mut space;
+    let mut room = [0u8; 65537];
+    let text: &mut [u8] = &mut room;
+    let mut cases: u64 = 0;
+    let mut differ: u64 = 0;
+    while cases < 1000000 {
+        let size = replay::next_case(buffer);
+        if size == 0 {
+            break;
+        }
+        differ += difference(&buffer[..size], text, cases);
+        cases += 1;
+    }
+    replay::report(cases, differ);
+}
