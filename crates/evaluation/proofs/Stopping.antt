@@ -5,10 +5,8 @@ use mathlib.Core.List.{List}
 use Prim.Native.Nat.{ℕ, _≤_, _<_}
 use lib.ListN.{length}
 use borrow.Author.Tests.{le-leb, lt-leb}
-use Rattle.refusals.specs.Stop.{Stop, never, stop, stopIf, orElse, stopOf, checkedOf}
+use Rattle.refusals.specs.Stop.{Stop, never, stop, stopIf, orElse, stopOf}
 use Rattle.refusals.specs.declared.Refusal.{Refusal}
-use Rattle.refusals.specs.declared.Checked.{Checked}
-use Rattle.refusals.specs.declared.Checked.the-variants.{Sound, Refused}
 use Rattle.refusals.proofs.First.{never-both}
 use Rattle.checks.specs.Check.{roomStop, cellsStop}
 use Rattle.conditions.specs.Ast.{Ast}
@@ -18,13 +16,6 @@ use Rattle.forms.specs.Held.{ScanIs}
 use Rattle.forms.specs.declared.Scanned.{Scanned}
 use Rattle.forms.specs.declared.Scanned.the-variants.{Table, Denied}
 use Rattle.evaluation.specs.Evaluation.{isRowLength, formStop, numbersStop, stops, PreparedIs}
-
--- what a check's answer tells of its stop
-pub told-refused : (c : Checked) (r : Refusal) (s : Stop) → c ≡ Refused r → checkedOf c ≡ s → s ≡ stopOf r
-told-refused c r s e f = sym f ∙ ap checkedOf e
-
-pub told-sound : (c : Checked) (s : Stop) → c ≡ Sound → checkedOf c ≡ s → s ≡ never
-told-sound c s e f = sym f ∙ ap checkedOf e
 
 pub row-short : (n : ℕ) → n < 1 → isRowLength n ≡ false
 unfolding isRowLength

@@ -8,14 +8,21 @@ use Rattle.refusals.specs.declared.Refusal.{Refusal}
 use Rattle.refusals.specs.declared.Checked.{Checked}
 use Rattle.refusals.specs.declared.Checked.the-variants.{Sound, Refused}
 
+-- what a check's answer tells of its stop
+pub told-refused : (c : Checked) (r : Refusal) (s : Stop) → c ≡ Refused r → checkedOf c ≡ s → s ≡ stopOf r
+told-refused c r s e f = sym f ∙ ap checkedOf e
+
+pub told-sound : (c : Checked) (s : Stop) → c ≡ Sound → checkedOf c ≡ s → s ≡ never
+told-sound c s e f = sym f ∙ ap checkedOf e
+
 module _ (a : Checked) (s later : Stop) where
   -- a refusal is handed on
   pub refused-first : (r : Refusal) → a ≡ Refused r → checkedOf a ≡ s → checkedOf a ≡ orElse s later
-  refused-first r e f = let g : stopOf r ≡ s = ap checkedOf (sym e) ∙ f in ap checkedOf e ∙ ap (λ x. orElse x later) g
+  refused-first r e f = ap checkedOf e ∙ ap (λ x. orElse x later) (sym (told-refused a r s e f))
 
   -- a sound answer leaves the later checks
   pub sound-first : a ≡ Sound → checkedOf a ≡ s → orElse s later ≡ later
-  sound-first e f = ap (λ x. orElse x later) (sym (ap checkedOf (sym e) ∙ f))
+  sound-first e f = ap (λ x. orElse x later) (told-sound a s e f)
 
 -- nothing stops where neither check does
 pub never-both : (s later : Stop) → orElse s later ≡ never → (s ≡ never) × (later ≡ never)

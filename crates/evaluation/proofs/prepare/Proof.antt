@@ -3,7 +3,8 @@ use denote.Ref.{now}
 use mathlib.Core.Path.{_≡_, refl, sym, _∙_}
 use Prim.Native.Nat.{ℕ, _≤_}
 use lib.ListN.{length}
-use Rattle.evaluation.proofs.Stopping.{told-refused, told-sound, row-short, row-long, row-right, at-room, at-count, at-cells, prepared-denied, prepared-stopped, prepared}
+use Rattle.refusals.proofs.First.{told-refused, told-sound}
+use Rattle.evaluation.proofs.Stopping.{row-short, row-long, row-right, at-room, at-count, at-cells, prepared-denied, prepared-stopped, prepared}
 use borrow.Author.Needs.{needs}
 use Rattle.evaluation.proofs.prepare.Statement.{statement}
 use Rattle.evaluation.proofs.prepare.Tie as tie
