@@ -20,7 +20,7 @@ use Rattle.operators.specs.Operator.{unaryOf, Applied, Room}
 use Rattle.operators.specs.declared.Rules.{Rules}
 use Rattle.operators.proofs.ByKind.{plain-unary, plain-flag}
 use Rattle.operators.proofs.Holding.{holds-unary, holds-truth, value-int32}
-use Rattle.conditions.specs.Ast.{Ast, literal, column, unary, binary, joins, eval, decides, twoSided, andThen}
+use Rattle.conditions.specs.Ast.{Ast, leaf, unary, binary, joins, eval, decides, twoSided, andThen}
 use Rattle.conditions.specs.Table.{nodeOf, leafOf, grow, treeOf, LeafSound, SoundAt, Sound, rowOf, RowSound, Asks, Says, Gives, Answers, LeafIs, Lies}
 use Rattle.conditions.specs.declared.Node.the-variants.{Leaf, One, Two}
 use Rattle.conditions.proofs.Giving.{handed-on, says-more, kept-trans, applied-gives, well-more, value-more}
@@ -70,7 +70,7 @@ module _ (R : Rules) (used top d k : ℕ) (nodes row text : List ℕ) (A : Asks 
 
   pub leaf-answers : (w : ℕ) (c : ℕ) → nodeOf (getD nodes k 0) ≡ Leaf w → LeafIs used w row c → Answers R used top d k nodes row text text (Gave c top)
   leaf-answers w c e l =
-      let q : treeOf base d nodes k ≡ leafOf base w = tree-step base d nodes k deep ∙ rw e in
+      let q : treeOf base d nodes k ≡ leaf (leafOf base w) = tree-step base d nodes k deep ∙ rw e in
       record {
         kept = refl;
         says = (

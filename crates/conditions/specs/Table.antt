@@ -13,7 +13,7 @@ use Rattle.integers.specs.Outcome.{Outcome, value}
 use Rattle.integers.specs.declared.Answer.{Answer}
 use Rattle.integers.specs.declared.Answer.the-variants.{Gave, Overflow, ShiftAmount, TooLong}
 use Rattle.operators.specs.declared.Rules.{Rules}
-use Rattle.conditions.specs.Ast.{Ast, literal, column, named, unary, binary, joins, eval}
+use Rattle.conditions.specs.Ast.{Ast, Atom, leaf, literal, column, named, unary, binary, joins, eval}
 use Rattle.conditions.specs.declared.Node.{Node}
 use Rattle.conditions.specs.declared.Node.the-variants.{Leaf, One, Two}
 
@@ -21,20 +21,20 @@ use Rattle.conditions.specs.declared.Node.the-variants.{Leaf, One, Two}
 unfoldable pub nodeOf : ℕ → Node
 nodeOf w = cond (ltb (w / 2 ^ 56) 16) (Leaf w) (cond (ltb (w / 2 ^ 56) 32) (One (w / 2 ^ 56)) (Two (w / 2 ^ 56) (w % 2 ^ 56)))
 
--- a leaf: kind 4 is a column by its number, kind 3 one by its name, any other a literal
-unfoldable pub leafOf : List ℕ → ℕ → Ast
+-- what a leaf's word means: kind 4 is a column by its number, kind 3 one by its name, any other a literal
+unfoldable pub leafOf : List ℕ → ℕ → Atom
 leafOf base w =
     cond (eqb (w / 2 ^ 56) 4) (column (w % 2 ^ 56)) (cond (eqb (w / 2 ^ 56) 3) (named (piece (startOf w) (lengthOf w) base)) (literal (valueOf base w)))
 
 -- a tree from its node and the trees below it: the right operand, or the only one, stands just before
 abbrev pub grow : List ℕ → Node → (ℕ → Ast) → ℕ → Ast
-grow base (Leaf w) sub k = leafOf base w
+grow base (Leaf w) sub k = leaf (leafOf base w)
 grow base (One op) sub k = unary op (sub (k - 1))
 grow base (Two op l) sub k = binary op (sub l) (sub (k - 1))
 
 -- the tree at index k, at most d deep
 unfoldable pub treeOf : List ℕ → ℕ → List ℕ → ℕ → Ast
-treeOf base zero nodes k = literal null
+treeOf base zero nodes k = leaf (literal null)
 treeOf base (suc d) nodes k = grow base (nodeOf (getD nodes k 0)) (treeOf base d nodes) k
 
 -- of a bound condition: a column is below the width, a literal is well formed below the mark
@@ -106,5 +106,5 @@ Lies top node row TooLong = Unit {0}
 -- what the word of a leaf's cell is
 pub record LeafIs (used w : ℕ) (row : List ℕ) (r : ℕ) : Type 0 where
   pub exact : r ≡ leafCell row w
-  pub means : (R : Rules) (base : List ℕ) → eval R (rowOf base row) (leafOf base w) ≡ value (valueOf base r)
+  pub means : (R : Rules) (base : List ℕ) → eval R (rowOf base row) (leaf (leafOf base w)) ≡ value (valueOf base r)
   pub within : WellFormed used r

@@ -10,8 +10,7 @@ use borrow.Author.Tests.{eq-eqb, ne-eqb, leb-false, ltb-true, eqb-true}
 use Rattle.refusals.specs.Stop.{Stop, never, stop, stopIf, orElse}
 use Rattle.refusals.proofs.First.{never-both}
 use Rattle.slices.specs.Bytes.{both}
-use Rattle.conditions.specs.Ast.{Ast, literal, column, named, unary, binary, height}
-use Rattle.conditions.specs.Table.{leafOf}
+use Rattle.conditions.specs.Ast.{Tree, leaf, unary, binary, height}
 use Rattle.nodes.specs.Kind.{known, allows, isKind, bodyOf, leafWord, textFits, two, four}
 use Rattle.nodes.specs.declared.Allowed.the-variants.{Bound}
 use Rattle.nodes.proofs.Bodies.{known-leaf}
@@ -19,14 +18,12 @@ use Rattle.forms.specs.Form.{Parsed, tree, refusal, Move, go, stop as halt, pus
 use Rattle.evaluation.specs.Evaluation.{isMissing, numbersStop}
 
 -- every column is below the width, and none stands by its name
-unfoldable pub Narrow : ℕ → Ast → Type 0
-Narrow width (literal v) = Unit {0}
-Narrow width (column c) = c < width
-Narrow width (named name) = ⊥
+unfoldable pub Narrow : ℕ → Tree ℕ → Type 0
+Narrow width (leaf w) = cond (eqb (w / 2 ^ 56) 4) (w % 2 ^ 56 < width) (cond (eqb (w / 2 ^ 56) 3) ⊥ (Unit {0}))
 Narrow width (unary op a) = Narrow width a
 Narrow width (binary op a b) = Narrow width a × Narrow width b
 
-unfoldable pub AllNarrow : ℕ → List Ast → Type 0
+unfoldable pub AllNarrow : ℕ → List (Tree ℕ) → Type 0
 AllNarrow width [] = Unit {0}
 AllNarrow width (t ∷ s) = Narrow width t × AllNarrow width s
 
@@ -37,23 +34,23 @@ both-true : (a b : Bool) → both a b ≡ true → (a ≡ true) × (b ≡ true)
 both-true true b e = (refl, e)
 both-true false b e = absurd (let z : _≡_ {A = ℕ} 0 1 = cc in omega arith)
 
-module _ (width used at : ℕ) (base b : List ℕ) (B : (i : ℕ) → getD b i 0 < 256) where
+module _ (width used at : ℕ) (b : List ℕ) (B : (i : ℕ) → getD b i 0 < 256) where
   two-small : (i : ℕ) → two b i < 65536
   two-small i = omega (arith, B i, B (i + 1))
 
   four-small : (i : ℕ) → four b i < 2 ^ 32
   four-small i = omega (arith, two-small i, two-small (i + 2))
 
-  literal-narrow : (w : ℕ) → (w / 2 ^ 56 ≡ 4 → ⊥) → (w / 2 ^ 56 ≡ 3 → ⊥) → Narrow width (leafOf base w)
-  unfolding leafOf Narrow
+  literal-narrow : (w : ℕ) → (w / 2 ^ 56 ≡ 4 → ⊥) → (w / 2 ^ 56 ≡ 3 → ⊥) → Narrow width (leaf w)
+  unfolding Narrow
   literal-narrow w n m = rw (ne-eqb (w / 2 ^ 56) 4 n, ne-eqb (w / 2 ^ 56) 3 m) tt
 
-  column-narrow : (w : ℕ) → w / 2 ^ 56 ≡ 4 → w % 2 ^ 56 < width → Narrow width (leafOf base w)
-  unfolding leafOf Narrow
+  column-narrow : (w : ℕ) → w / 2 ^ 56 ≡ 4 → w % 2 ^ 56 < width → Narrow width (leaf w)
+  unfolding Narrow
   column-narrow w e h = rw (eq-eqb (w / 2 ^ 56) 4 e) h
 
   -- a leaf of a bound condition
-  leaf-narrow : (k : ℕ) → k < 5 → (k ≡ 3 → ⊥) → (k ≡ 4 → getD b (at + 1) 0 < width) → Narrow width (leafOf base (leafWord b at k))
+  leaf-narrow : (k : ℕ) → k < 5 → (k ≡ 3 → ⊥) → (k ≡ 4 → getD b (at + 1) 0 < width) → Narrow width (leaf (leafWord b at k))
   unfolding leafWord
   leaf-narrow zero l n h = literal-narrow 0 (λ e. omega arith) (λ e. omega arith)
   leaf-narrow (suc zero) l n h =
@@ -71,12 +68,12 @@ module _ (width used at : ℕ) (base b : List ℕ) (B : (i : ℕ) → getD b i 0
 
   -- what a move leaves on the stack, and where it goes on
   pub record Moved (k : ℕ) (m : Move) : Type 0 where
-    pub stays : (s : List Ast) (next : ℕ) → m ≡ go s next → AllNarrow width s × (next ≡ at + 1 + bodyOf k)
+    pub stays : (s : List (Tree ℕ)) (next : ℕ) → m ≡ go s next → AllNarrow width s × (next ≡ at + 1 + bodyOf k)
 
   halted : (k n : ℕ) → Moved k (halt n)
   halted k n = record { stays = λ s next e. absurd (let z : _≡_ {A = ℕ} 0 1 = cc in omega arith) }
 
-  gone : (k : ℕ) (s : List Ast) → AllNarrow width s → Moved k (go s (at + 1 + bodyOf k))
+  gone : (k : ℕ) (s : List (Tree ℕ)) → AllNarrow width s → Moved k (go s (at + 1 + bodyOf k))
   gone k s h =
       record {
         stays = λ t next e.
@@ -89,22 +86,22 @@ module _ (width used at : ℕ) (base b : List ℕ) (B : (i : ℕ) → getD b i 0
   moved-cond true k h l = h
   moved-cond false k h l = l
 
-  moved-pushed : (k : ℕ) (t : Ast) (s : List Ast) → Narrow width t → AllNarrow width s → Moved k (pushed t s (at + 1 + bodyOf k))
+  moved-pushed : (k : ℕ) (t : Tree ℕ) (s : List (Tree ℕ)) → Narrow width t → AllNarrow width s → Moved k (pushed t s (at + 1 + bodyOf k))
   unfolding AllNarrow
   moved-pushed k t s h l = moved-cond (leb (height t) 16) k (gone k (t ∷ s) (h, l)) (halted k 2)
 
-  moved-one : (k : ℕ) (s : List Ast) → AllNarrow width s → Moved k (onOne k s (at + 1 + bodyOf k))
+  moved-one : (k : ℕ) (s : List (Tree ℕ)) → AllNarrow width s → Moved k (onOne k s (at + 1 + bodyOf k))
   unfolding AllNarrow Narrow
   moved-one k [] h = halted k 1
   moved-one k (a ∷ s) h = moved-pushed k (unary k a) s (h .0) (h .1)
 
-  moved-two : (k : ℕ) (s : List Ast) → AllNarrow width s → Moved k (onTwo k s (at + 1 + bodyOf k))
+  moved-two : (k : ℕ) (s : List (Tree ℕ)) → AllNarrow width s → Moved k (onTwo k s (at + 1 + bodyOf k))
   unfolding AllNarrow Narrow
   moved-two k [] h = halted k 1
   moved-two k (b ∷ []) h = halted k 1
   moved-two k (b ∷ (a ∷ s)) h = moved-pushed k (binary k a b) s (h .1 .0, h .0) (h .1 .1)
 
-  moved-node : (k : ℕ) (s : List Ast) → (k ≡ 4 → getD b (at + 1) 0 < width) → AllNarrow width s → Moved k (nodeAt Bound used base b at k s)
+  moved-node : (k : ℕ) (s : List (Tree ℕ)) → (k ≡ 4 → getD b (at + 1) 0 < width) → AllNarrow width s → Moved k (nodeAt Bound used b at k s)
   unfolding nodeAt AllNarrow
   moved-node k s h l = by (known Bound k) refl
     where
@@ -113,23 +110,23 @@ module _ (width used at : ℕ) (base b : List ℕ) (B : (i : ℕ) → getD b i 0
 
       by : (x : Bool) → known Bound k ≡ x
           → Moved k (cond x (cond (leb (at + 1 + bodyOf k) (length b))
-          (cond (ltb k 16) (cond (textFits used b at k) (go (leafOf base (leafWord b at k) ∷ s) (at + 1 + bodyOf k)) (halt 3)) (cond (ltb k 32) (onOne k s (at + 1 + bodyOf k)) (onTwo k s (at + 1 + bodyOf k)))) (halt 1)) (halt 1))
+          (cond (ltb k 16) (cond (textFits used b at k) (go (leaf (leafWord b at k) ∷ s) (at + 1 + bodyOf k)) (halt 3)) (cond (ltb k 32) (onOne k s (at + 1 + bodyOf k)) (onTwo k s (at + 1 + bodyOf k)))) (halt 1)) (halt 1))
       by false e = halted k 1
       by true e = moved-cond (leb (at + 1 + bodyOf k) (length b)) k (leafy (ltb k 16) refl) (halted k 1)
         where
           leafy : (y : Bool) → ltb k 16 ≡ y
-              → Moved k (cond y (cond (textFits used b at k) (go (leafOf base (leafWord b at k) ∷ s) (at + 1 + bodyOf k)) (halt 3)) (cond (ltb k 32) (onOne k s (at + 1 + bodyOf k)) (onTwo k s (at + 1 + bodyOf k))))
-          leafy true f = moved-cond (textFits used b at k) k (gone k (leafOf base (leafWord b at k) ∷ s) (leaf-narrow k (known-leaf Bound k e (ltb-true k 16 f)) (bound e) h, l)) (halted k 3)
+              → Moved k (cond y (cond (textFits used b at k) (go (leaf (leafWord b at k) ∷ s) (at + 1 + bodyOf k)) (halt 3)) (cond (ltb k 32) (onOne k s (at + 1 + bodyOf k)) (onTwo k s (at + 1 + bodyOf k))))
+          leafy true f = moved-cond (textFits used b at k) k (gone k (leaf (leafWord b at k) ∷ s) (leaf-narrow k (known-leaf Bound k e (ltb-true k 16 f)) (bound e) h, l)) (halted k 3)
           leafy false f = moved-cond (ltb k 32) k (moved-one k s l) (moved-two k s l)
 
 -- the whole
-finish-narrow : (width : ℕ) (s : List Ast) (at : ℕ) (t : Ast) → AllNarrow width s → finish s at ≡ tree t → Narrow width t
+finish-narrow : (width : ℕ) (s : List (Tree ℕ)) (at : ℕ) (t : Tree ℕ) → AllNarrow width s → finish s at ≡ tree t → Narrow width t
 unfolding AllNarrow
 finish-narrow width [] at t h e = absurd (let z : _≡_ {A = ℕ} 0 1 = cc in omega arith)
 finish-narrow width (u ∷ []) at t h e = let q : u ≡ t = cc in rw (← q) (h .0)
 finish-narrow width (u ∷ (v ∷ s)) at t h e = absurd (let z : _≡_ {A = ℕ} 0 1 = cc in omega arith)
 
-module _ (width used : ℕ) (base b : List ℕ) (B : (i : ℕ) → getD b i 0 < 256) where
+module _ (width used : ℕ) (b : List ℕ) (B : (i : ℕ) → getD b i 0 < 256) where
   right-number : (at k : ℕ) → getD b at 0 ≡ k → isMissing width b at ≡ false → k ≡ 4 → getD b (at + 1) 0 < width
   right-number at k e m f =
       let q : both true (leb width (getD b (at + 1) 0)) ≡ false = rw (eq-eqb (getD b at 0) 4 (e ∙ f)) at m in
@@ -139,7 +136,7 @@ module _ (width used : ℕ) (base b : List ℕ) (B : (i : ℕ) → getD b i 0 < 
   not-missing true at later h = absurd (let z : _≡_ {A = ℕ} 0 1 = cc in omega arith)
   not-missing false at later h = refl
 
-  pub parse-narrow : (f at : ℕ) (s : List Ast) (t : Ast) → AllNarrow width s → numbersStop width b f at ≡ never → parse Bound used base b f at s ≡ tree t → Narrow width t
+  pub parse-narrow : (f at : ℕ) (s : List (Tree ℕ)) (t : Tree ℕ) → AllNarrow width s → numbersStop width b f at ≡ never → parse Bound used b f at s ≡ tree t → Narrow width t
   unfolding parse numbersStop
   parse-narrow zero at s t h n e = by (ltb at (length b)) e
     where
@@ -149,12 +146,12 @@ module _ (width used : ℕ) (base b : List ℕ) (B : (i : ℕ) → getD b i 0 < 
   parse-narrow (suc f) at s t h n e = by (λ next s′ a n e. parse-narrow f next s′ t a n e) (ltb at (length b)) n e
     where
       Later : Type 0
-      Later = (next : ℕ) (s′ : List Ast) → AllNarrow width s′ → numbersStop width b f next ≡ never → parse Bound used base b f next s′ ≡ tree t → Narrow width t
+      Later = (next : ℕ) (s′ : List (Tree ℕ)) → AllNarrow width s′ → numbersStop width b f next ≡ never → parse Bound used b f next s′ ≡ tree t → Narrow width t
 
       by : Later → (x : Bool) → cond x (orElse (stopIf (isMissing width b at) 4 at) (numbersStop width b f (at + 1 + bodyOf (getD b at 0)))) never ≡ never
-          → cond x (follow (nodeAt Bound used base b at (getD b at 0) s) at (λ s′ next. parse Bound used base b f next s′)) (finish s at) ≡ tree t → Narrow width t
+          → cond x (follow (nodeAt Bound used b at (getD b at 0) s) at (λ s′ next. parse Bound used b f next s′)) (finish s at) ≡ tree t → Narrow width t
       by rest false n e = finish-narrow width s at t h e
-      by rest true n e = through (nodeAt Bound used base b at (getD b at 0) s) refl e
+      by rest true n e = through (nodeAt Bound used b at (getD b at 0) s) refl e
         where
           m : isMissing width b at ≡ false
           m = not-missing (isMissing width b at) at _ n
@@ -162,8 +159,8 @@ module _ (width used : ℕ) (base b : List ℕ) (B : (i : ℕ) → getD b i 0 < 
           later : numbersStop width b f (at + 1 + bodyOf (getD b at 0)) ≡ never
           later = never-both (stopIf (isMissing width b at) 4 at) _ n .1
 
-          through : (v : Move) → nodeAt Bound used base b at (getD b at 0) s ≡ v → follow v at (λ s′ next. parse Bound used base b f next s′) ≡ tree t → Narrow width t
+          through : (v : Move) → nodeAt Bound used b at (getD b at 0) s ≡ v → follow v at (λ s′ next. parse Bound used b f next s′) ≡ tree t → Narrow width t
           through (go s′ next) q e =
-              let p = moved-node width used at base b B (getD b at 0) s (right-number at (getD b at 0) refl m) h .stays s′ next q in
+              let p = moved-node width used at b B (getD b at 0) s (right-number at (getD b at 0) refl m) h .stays s′ next q in
               rest next s′ (p .0) (rw (p .1) later) e
           through (halt x) q e = absurd (let z : _≡_ {A = ℕ} 0 1 = cc in omega arith)

@@ -15,7 +15,7 @@ use Rattle.cells.proofs.Stops.{never-stops}
 use Rattle.cells.proofs.Words.{word-back}
 use Rattle.values.specs.Value.{Value, null, int, str, binary, valueOf, toValue}
 use Rattle.operators.specs.declared.Rules.{Rules}
-use Rattle.conditions.specs.Ast.{Ast, size}
+use Rattle.conditions.specs.Ast.{Tree, size}
 use Rattle.nodes.specs.declared.Allowed.the-variants.{Bound}
 use Rattle.forms.specs.Form.{tree, parsed}
 use Rattle.evaluation.specs.Evaluation.{Result, gave, EvaluatedIs, Says, evaluation}
@@ -29,16 +29,16 @@ isText (str s) = Unit {0}
 isText binary = ⊥
 
 -- two returned cells: they mean the same, each in its text; their words differ at most where they are a text that was computed
-pub record Alike (b : List ℕ) (stored : List ℕ) (used : ℕ) (after after′ : List ℕ) (w w′ : ℕ) : Type 0 where
+pub record Alike (b : List ℕ) (used : ℕ) (after after′ : List ℕ) (w w′ : ℕ) : Type 0 where
   pub content : valueOf after w ≡ valueOf after′ w′
   pub exact : (isText (valueOf after w) → ⊥) → w ≡ w′
-  pub leaf : (t : Ast) → parsed Bound used stored b ≡ tree t → size t ≡ 1 → w ≡ w′
+  pub leaf : (t : Tree ℕ) → parsed Bound used b ≡ tree t → size t ≡ 1 → w ≡ w′
 
-abbrev pub Same : List ℕ → List ℕ → ℕ → List ℕ → List ℕ → Evaluated → Evaluated → Type 0
-Same b stored used after after′ (Cell w) (Cell w′) = Alike b stored used after after′ w w′
-Same b stored used after after′ (Cell w) (Refused s) = ⊥
-Same b stored used after after′ (Refused r) (Cell w′) = ⊥
-Same b stored used after after′ (Refused r) (Refused s) = r ≡ s
+abbrev pub Same : List ℕ → ℕ → List ℕ → List ℕ → Evaluated → Evaluated → Type 0
+Same b used after after′ (Cell w) (Cell w′) = Alike b used after after′ w w′
+Same b used after after′ (Cell w) (Refused s) = ⊥
+Same b used after after′ (Refused r) (Cell w′) = ⊥
+Same b used after after′ (Refused r) (Refused s) = r ≡ s
 
 -- what a result gives or is refused with
 given : Result → Value
@@ -67,7 +67,7 @@ one-ref x y Binary (Str a l) n e = absurd (let z : _≡_ {A = ℕ} 0 1 = cc in o
 
 module _ (R : Rules) (b row before after after′ : List ℕ) (used : ℕ) where
   pub one-evaluation : (r r′ : Evaluated) → EvaluatedIs R b row before after used r → EvaluatedIs R b row before after′ used r′
-      → (take used after ≡ take used after′) × Same b (take used before) used after after′ r r′
+      → (take used after ≡ take used after′) × Same b used after after′ r r′
   unfolding given stopped
   one-evaluation (Cell w) (Cell w′) h h′ =
       let content : valueOf after w ≡ valueOf after′ w′ = ap given (sym (h .says .0) ∙ h′ .says .0) in (

@@ -10,20 +10,19 @@ use lib.Seq.{take-length}
 use lib.Dec.{eqb, ltb}
 use Rattle.refusals.specs.Stop.{stopOf}
 use Rattle.refusals.specs.declared.Refusal.{Refusal}
-use Rattle.slices.specs.Splice.{piece}
 use Rattle.cells.specs.Cell.{WellFormed, startOf, lengthOf}
 use Rattle.values.specs.Value.{valueOf}
 use Rattle.checks.proofs.Turns.{cells-sound, room-there}
 use Rattle.integers.specs.declared.Answer.{Answer}
 use Rattle.integers.specs.declared.Answer.the-variants.{Gave, Overflow, ShiftAmount, TooLong}
 use Rattle.operators.specs.declared.Rules.{Rules}
-use Rattle.conditions.specs.Ast.{Ast, literal, column, named, unary, binary, eval, height, size, joins}
+use Rattle.conditions.specs.Ast.{Tree, Atom, leaf, unary, binary, mapTree, eval, height, size, joins}
 use Rattle.conditions.specs.Table.{nodeOf, leafOf, treeOf, rowOf, leafCell, LeafSound, SoundAt, Sound, RowSound, Asks, Answers, LiesAt, Lies}
 use Rattle.conditions.specs.declared.Node.the-variants.{Leaf, One, Two}
 use Rattle.conditions.proofs.Giving.{well-more, value-more}
 use Rattle.nodes.specs.Kind.{leafWord}
 use Rattle.forms.specs.Form.{Parsed, tree, refusal}
-use Rattle.forms.specs.Held.{LeafHeld, LeafAt, Denotes}
+use Rattle.forms.specs.Held.{LeafHeld, Denotes}
 use Rattle.forms.specs.declared.Scanned.the-variants.{Table}
 use Rattle.evaluation.specs.Evaluation.{evaluation, stops, atZero, gave, LiesIn, EvaluatedIs, PreparedIs}
 use Rattle.evaluation.specs.declared.Evaluated.{Evaluated}
@@ -31,63 +30,62 @@ use Rattle.evaluation.specs.declared.Evaluated.the-variants.{Cell, Refus
 use Rattle.evaluation.proofs.Stopping.{room-passed, cells-passed, numbers-passed}
 use Rattle.evaluation.proofs.Narrowing.{Narrow, AllNarrow, parse-narrow}
 
-height-pos : (t : Ast) → 0 < height t
+height-pos : (t : Tree ℕ) → 0 < height t
 unfolding height
-height-pos (literal v) = omega arith
-height-pos (column c) = omega arith
-height-pos (named m) = omega arith
+height-pos (leaf w) = omega arith
 height-pos (unary op a) = omega arith
 height-pos (binary op a b) = omega arith
 
 -- the tree that evaluation walks
-pub denotes-tree : (used : ℕ) (base nodes : List ℕ) (d k : ℕ) (t : Ast) → height t ≤ d → Denotes used base nodes k t → treeOf base d nodes k ≡ t
-unfolding Denotes treeOf height
+pub denotes-tree : (used : ℕ) (base nodes : List ℕ) (d k : ℕ) (t : Tree ℕ) → height t ≤ d → Denotes used nodes k t → treeOf base d nodes k ≡ mapTree (leafOf base) t
+unfolding Denotes treeOf height mapTree
 denotes-tree used base nodes zero k t h q = absurd (omega (arith, height-pos t))
-denotes-tree used base nodes (suc d) k (literal v) h q = rw (q .1) (q .2)
-denotes-tree used base nodes (suc d) k (column c) h q = rw (q .1) (q .2)
-denotes-tree used base nodes (suc d) k (named m) h q = rw (q .1) (q .2)
+denotes-tree used base nodes (suc d) k (leaf w) h q = rw (q .0)
 denotes-tree used base nodes (suc d) k (unary op a) h q = rw (q .0) (ap (unary op) (denotes-tree used base nodes d (k - 1) a (omega arith) (q .3)))
 denotes-tree used base nodes (suc d) k (binary op a b) h q =
     rw (q .1) (ap₂ (binary op) (denotes-tree used base nodes d (q .0) a (omega arith) (q .4)) (denotes-tree used base nodes d (k - 1) b (omega arith) (q .5)))
 
-leaf-sound : (used width : ℕ) (base : List ℕ) (w : ℕ) → LeafHeld used w → Narrow width (leafOf base w) → LeafSound used width w
-unfolding LeafHeld LeafSound leafOf Narrow
-leaf-sound used width base w = by (eqb (w / 2 ^ 56) 4) (eqb (w / 2 ^ 56) 3)
+leaf-sound : (used width w : ℕ) → LeafHeld used w → Narrow width (leaf w) → LeafSound used width w
+unfolding LeafHeld LeafSound Narrow
+leaf-sound used width w = by (eqb (w / 2 ^ 56) 4) (eqb (w / 2 ^ 56) 3)
   where
     by : (x y : Bool) → cond x (Unit {0}) (cond y (startOf w + lengthOf w ≤ used) (WellFormed used w))
-        → Narrow width (cond x (column (w % 2 ^ 56)) (cond y (named (piece (startOf w) (lengthOf w) base)) (literal (valueOf base w))))
+        → cond x (w % 2 ^ 56 < width) (cond y ⊥ (Unit {0}))
         → cond x (w % 2 ^ 56 < width) (cond y ⊥ (WellFormed used w))
     by true y h n = n
     by false true h n = n
     by false false h n = h
 
 -- and it is sound
-pub denotes-sound : (used width : ℕ) (base nodes : List ℕ) (d k : ℕ) (t : Ast) → height t ≤ d → k < length nodes → Narrow width t → Denotes used base nodes k t → Sound used width d nodes k
-unfolding Denotes Sound height Narrow
-denotes-sound used width base nodes zero k t h l n q = absurd (omega (arith, height-pos t))
-denotes-sound used width base nodes (suc d) k (literal v) h l n q = (l, rw (q .1) (leaf-sound used width base (q .0) (q .3) (rw (q .2) tt)))
-denotes-sound used width base nodes (suc d) k (column c) h l n q = (l, rw (q .1) (leaf-sound used width base (q .0) (q .3) (rw (q .2) n)))
-denotes-sound used width base nodes (suc d) k (named m) h l n q = absurd n
-denotes-sound used width base nodes (suc d) k (unary op a) h l n q =
-    (l, rw (q .0) (q .1, q .2, denotes-sound used width base nodes d (k - 1) a (omega arith) (omega arith) n (q .3)))
-denotes-sound used width base nodes (suc d) k (binary op a b) h l n q = (
+pub denotes-sound : (used width : ℕ) (nodes : List ℕ) (d k : ℕ) (t : Tree ℕ) → height t ≤ d → k < length nodes → Narrow width t → Denotes used nodes k t → Sound used width d nodes k
+unfolding Denotes Sound height
+denotes-sound used width nodes zero k t h l n q = absurd (omega (arith, height-pos t))
+denotes-sound used width nodes (suc d) k (leaf w) h l n q = (l, rw (q .0) (leaf-sound used width w (q .1) n))
+denotes-sound used width nodes (suc d) k (unary op a) h l n q =
+    (l, rw (q .0) (q .1, q .2, denotes-sound used width nodes d (k - 1) a (omega arith) (omega arith) (unfold Narrow in n) (q .3)))
+denotes-sound used width nodes (suc d) k (binary op a b) h l n q = (
   l,
   rw (q .1) (
     q .2,
     q .3,
-    denotes-sound used width base nodes d (q .0) a (omega arith) (omega (arith, q .3)) (n .0) (q .4),
-    denotes-sound used width base nodes d (k - 1) b (omega arith) (omega arith) (n .1) (q .5),
+    denotes-sound used width nodes d (q .0) a (omega arith) (omega (arith, q .3)) (unfold Narrow in (n .0)) (q .4),
+    denotes-sound used width nodes d (k - 1) b (omega arith) (omega arith) (unfold Narrow in (n .1)) (q .5),
   ),
 )
 
 -- 64 nodes have at most 31 two-sided operators, so 32,768 bytes always suffice for the texts that one evaluation joins
-pub joins-size : (t : Ast) → joins t + joins t + 1 ≤ size t
+pub joins-size : (t : Tree ℕ) → joins t + joins t + 1 ≤ size t
 unfolding joins size
-joins-size (literal v) = omega arith
-joins-size (column c) = omega arith
-joins-size (named m) = omega arith
+joins-size (leaf w) = omega arith
 joins-size (unary op a) = omega (arith, joins-size a)
 joins-size (binary op a b) = omega (arith, joins-size a, joins-size b)
+
+-- what a leaf means changes no count
+joins-map : (f : ℕ → Atom) (t : Tree ℕ) → joins (mapTree f t) ≡ joins t
+unfolding joins mapTree
+joins-map f (leaf w) = refl
+joins-map f (unary op a) = joins-map f a
+joins-map f (binary op a b) = ap₂ (λ x y. x + y + 1) (joins-map f a) (joins-map f b)
 
 leaf-self : (x w : ℕ) → nodeOf x ≡ Leaf w → w ≡ x
 unfolding nodeOf
@@ -99,18 +97,16 @@ leaf-self x w = by (ltb (x / 2 ^ 56) 16) (ltb (x / 2 ^ 56) 32)
     by false false e = absurd (let z : _≡_ {A = ℕ} 0 1 = cc in omega arith)
 
 -- where the cell lies, told of the tree
-module _ (used : ℕ) (base nodes b row : List ℕ) (first : getD nodes 0 0 ≡ leafWord b 0 (getD b 0 0)) (w : ℕ) where
+module _ (used : ℕ) (nodes b row : List ℕ) (first : getD nodes 0 0 ≡ leafWord b 0 (getD b 0 0)) (w : ℕ) where
   own-leaf : (k x : ℕ) → k + 1 ≡ 1 → nodeOf (getD nodes k 0) ≡ Leaf x → LiesAt used (nodeOf (getD nodes k 0)) row w → LiesIn b row used 1 w
   own-leaf k x one e h = record {
     own = λ o. subst (λ n. LiesAt used n row w) e h ∙ ap (leafCell row) (leaf-self _ x e ∙ ap (λ i. getD nodes i 0) (let z : k ≡ 0 = omega arith in z) ∙ first);
     above = λ l. absurd (omega arith);
   }
 
-  pub lies-in : (k : ℕ) (t : Ast) → k + 1 ≡ size t → Denotes used base nodes k t → LiesAt used (nodeOf (getD nodes k 0)) row w → LiesIn b row used (size t) w
+  pub lies-in : (k : ℕ) (t : Tree ℕ) → k + 1 ≡ size t → Denotes used nodes k t → LiesAt used (nodeOf (getD nodes k 0)) row w → LiesIn b row used (size t) w
   unfolding Denotes size
-  lies-in k (literal v) s q h = own-leaf k (q .0) s (q .1) h
-  lies-in k (column c) s q h = own-leaf k (q .0) s (q .1) h
-  lies-in k (named m) s q h = own-leaf k (q .0) s (q .1) h
+  lies-in k (leaf x) s q h = own-leaf k x s (q .0) h
   lies-in k (unary op a) s q h = record {
     own = λ o. absurd (omega (arith, joins-size a));
     above = λ l. subst (λ n. LiesAt used n row w) (q .0) h;
@@ -131,12 +127,12 @@ answerOf Overflow = Refused (Refusal.Overflow 0)
 answerOf ShiftAmount = Refused (Refusal.ShiftAmount 0)
 answerOf TooLong = Refused (Refusal.TooLong 0)
 
-pub denied : (R : Rules) (b row text : List ℕ) (used : ℕ) (r : Refusal) → stops b row (take used text) (length text) used ≡ stopOf r → EvaluatedIs R b row text text used (Refused r)
+pub denied : (R : Rules) (b row text : List ℕ) (used : ℕ) (r : Refusal) → stops b row (length text) used ≡ stopOf r → EvaluatedIs R b row text text used (Refused r)
 unfolding evaluation
 denied R b row text used r p = record { kept = refl; says = rw p }
 
-module _ (R : Rules) (limit : R .limit ≤ 1024) (b row text : List ℕ) (bytes : (i : ℕ) → getD b i 0 < 256) (used n : ℕ) (nodes : List ℕ) (long : length nodes ≡ 64) (p : PreparedIs b row (take used text) (length text) used nodes (Table n)) where
-  abbrev t : Ast
+module _ (R : Rules) (limit : R .limit ≤ 1024) (b row text : List ℕ) (bytes : (i : ℕ) → getD b i 0 < 256) (used n : ℕ) (nodes : List ℕ) (long : length nodes ≡ 64) (p : PreparedIs b row (length text) used nodes (Table n)) where
+  abbrev t : Tree ℕ
   t = p .1 .0
 
   pub some : 1 ≤ n
@@ -145,29 +141,29 @@ module _ (R : Rules) (limit : R .limit ≤ 1024) (b row text : List ℕ) (bytes 
   k+1 : n - 1 + 1 ≡ size t
   k+1 = omega (arith, some, p .1 .3)
 
-  held : Denotes used (take used text) nodes (n - 1) t
+  held : Denotes used nodes (n - 1) t
   held = p .1 .6
 
-  same : treeOf (take used text) 16 nodes (n - 1) ≡ t
+  same : treeOf (take used text) 16 nodes (n - 1) ≡ mapTree (leafOf (take used text)) t
   same = denotes-tree used (take used text) nodes 16 (n - 1) t (p .1 .5) held
 
   there : (length text ≤ 65536) × (used + 32768 ≤ length text)
-  there = room-there 32768 (length text) used (room-passed b row (take used text) (length text) used (p .0))
+  there = room-there 32768 (length text) used (room-passed b row (length text) used (p .0))
 
   room : used + 1024 * joins (treeOf (take used text) 16 nodes (n - 1)) ≤ length text
-  room = rw same (omega (arith, joins-size t, p .1 .3, p .1 .4, there .1))
+  room = rw (same, joins-map (leafOf (take used text)) t) (omega (arith, joins-size t, p .1 .3, p .1 .4, there .1))
 
   narrow : Narrow (length row) t
   unfolding AllNarrow
-  narrow = parse-narrow (length row) used (take used text) b bytes 64 0 [] t tt (numbers-passed b row (take used text) (length text) used (p .0)) (p .1 .1)
+  narrow = parse-narrow (length row) used b bytes 64 0 [] t tt (numbers-passed b row (length text) used (p .0)) (p .1 .1)
 
   pub asks : Asks R used used 16 (n - 1) nodes row text
   asks = record {
     marks = omega arith;
     short = limit;
     small = there .0;
-    sound = denotes-sound used (length row) (take used text) nodes 16 (n - 1) t (p .1 .5) (omega (arith, long, some, p .1 .4)) narrow held;
-    rows = record { cells = cells-sound used 0 row (cells-passed b row (take used text) (length text) used (p .0)) };
+    sound = denotes-sound used (length row) nodes 16 (n - 1) t (p .1 .5) (omega (arith, long, some, p .1 .4)) narrow held;
+    rows = record { cells = cells-sound used 0 row (cells-passed b row (length text) used (p .0)) };
     room = room;
   }
 
@@ -185,7 +181,7 @@ module _ (R : Rules) (limit : R .limit ≤ 1024) (b row text : List ℕ) (bytes 
           says = (
             whole ∙ ap atZero (a .says .0) ∙ ap (λ v. gave v) (sym (value-more u (length after) after after w below (a .says .1) refl) ∙ ap (λ z. valueOf z w) (take-length after)),
             well-more u (length after) w below (a .says .1),
-            λ s e. subst (λ m. LiesIn b row used m w) (ap sizeOf (sym (p .1 .1) ∙ e)) (lies-in used (take used text) nodes b row (p .1 .7) w (n - 1) t k+1 held l),
+            λ s e. subst (λ m. LiesIn b row used m w) (ap sizeOf (sym (p .1 .1) ∙ e)) (lies-in used nodes b row (p .1 .7) w (n - 1) t k+1 held l),
           );
         }
     evaluated Overflow a l = record { kept = a .kept; says = whole ∙ ap atZero (a .says) }

@@ -13,11 +13,11 @@ use Rattle.values.specs.Value.{Value, valueOf}
 use Rattle.checks.specs.Check.{roomStop, cellsStop}
 use Rattle.integers.specs.Outcome.{Outcome, value}
 use Rattle.operators.specs.declared.Rules.{Rules}
-use Rattle.conditions.specs.Ast.{Ast, eval, size}
-use Rattle.conditions.specs.Table.{rowOf, leafCell}
+use Rattle.conditions.specs.Ast.{Tree, mapTree, eval, size}
+use Rattle.conditions.specs.Table.{leafOf, rowOf, leafCell}
 use Rattle.nodes.specs.Kind.{bodyOf, leafWord}
 use Rattle.nodes.specs.declared.Allowed.the-variants.{Bound}
-use Rattle.forms.specs.Form.{Parsed, tree, refusal, parsed}
+use Rattle.forms.specs.Form.{Parsed, tree, refusal, parsed, formStop}
 use Rattle.forms.specs.Held.{ScanIs}
 use Rattle.forms.specs.declared.Scanned.{Scanned}
 use Rattle.forms.specs.declared.Scanned.the-variants.{Table, Denied}
@@ -27,11 +27,6 @@ use Rattle.evaluation.specs.declared.Evaluated.the-variants.{Cell, Refus
 -- one row has 1 to 32 cells
 unfoldable pub isRowLength : ℕ → Bool
 isRowLength n = both (leb 1 n) (leb n 32)
-
--- the form's refusal, or none
-abbrev pub formStop : Parsed → Stop
-formStop (tree t) = never
-formStop (refusal number place) = stop number place
 
 -- a column node whose number is no column's
 abbrev pub isMissing : ℕ → List ℕ → ℕ → Bool
@@ -43,14 +38,14 @@ numbersStop width b zero at = never
 numbersStop width b (suc f) at =
     cond (ltb at (length b)) (orElse (stopIf (isMissing width b at) 4 at) (numbersStop width b f (at + 1 + bodyOf (getD b at 0)))) never
 
--- all that is looked at before evaluation, in document 01's order; size is the text buffer's, stored what lies below the mark
-abbrev pub stops : List ℕ → List ℕ → List ℕ → ℕ → ℕ → Stop
-stops b row stored size used =
+-- all that is looked at before evaluation, in document 01's order; size is the text buffer's
+abbrev pub stops : List ℕ → List ℕ → ℕ → ℕ → Stop
+stops b row size used =
     firstOf
     (roomStop 32768 size used
     ∷ stopIf (not (isRowLength (length row))) 8 0
     ∷ cellsStop used 0 row
-    ∷ formStop (parsed Bound used stored b)
+    ∷ formStop (parsed Bound used b)
     ∷ numbersStop (length row) b 64 0
     ∷ [])
 
@@ -64,7 +59,7 @@ abbrev pub atZero : Outcome → Result
 atZero (value v) = gave v
 atZero (Outcome.refused number) = Result.refused number 0
 
-abbrev pub ofTree : (Ast → Outcome) → Parsed → Result
+abbrev pub ofTree : (Tree ℕ → Outcome) → Parsed → Result
 ofTree f (tree t) = atZero (f t)
 ofTree f (refusal number place) = Result.refused number place
 
@@ -75,24 +70,24 @@ unlessStopped (stop number place) r = Result.refused number place
 -- a condition's bytes on a row, both read in the stored text
 unfoldable pub evaluation : Rules → List ℕ → List ℕ → List ℕ → ℕ → ℕ → Result
 evaluation R b row stored size used =
-    unlessStopped (stops b row stored size used) (ofTree (λ t. eval R (rowOf stored row) t) (parsed Bound used stored b))
+    unlessStopped (stops b row size used) (ofTree (λ t. eval R (rowOf stored row) (mapTree (leafOf stored) t)) (parsed Bound used b))
 
 -- where a returned cell lies: of a condition of one leaf it is the leaf's own word; a text of any other was computed, and lies above the mark
 pub record LiesIn (b row : List ℕ) (used nodes w : ℕ) : Type 0 where
   pub own : nodes ≡ 1 → w ≡ leafCell row (leafWord b 0 (getD b 0 0))
   pub above : 1 < nodes → kindOf w ≡ 2 → used ≤ startOf w
 
-abbrev pub Says : List ℕ → List ℕ → List ℕ → List ℕ → ℕ → Evaluated → Result → Type 0
-Says b row stored after used (Cell w) o =
-    (o ≡ gave (valueOf after w)) × WellFormed (length after) w × ((t : Ast) → parsed Bound used stored b ≡ tree t → LiesIn b row used (size t) w)
-Says b row stored after used (Refused r) o = o ≡ Result.refused (told r .number) (told r .place)
+abbrev pub Says : List ℕ → List ℕ → List ℕ → ℕ → Evaluated → Result → Type 0
+Says b row after used (Cell w) o =
+    (o ≡ gave (valueOf after w)) × WellFormed (length after) w × ((t : Tree ℕ) → parsed Bound used b ≡ tree t → LiesIn b row used (size t) w)
+Says b row after used (Refused r) o = o ≡ Result.refused (told r .number) (told r .place)
 
 -- what `evaluate` answers, and that the text below the mark is as it was
 pub record EvaluatedIs (R : Rules) (b row before after : List ℕ) (used : ℕ) (r : Evaluated) : Type 0 where
   pub kept : take used after ≡ take used before
-  pub says : Says b row (take used before) after used r (evaluation R b row (take used before) (length before) used)
+  pub says : Says b row after used r (evaluation R b row (take used before) (length before) used)
 
 -- what is prepared for an evaluation: nothing stops it and the table holds the tree, or what stops it
-abbrev pub PreparedIs : List ℕ → List ℕ → List ℕ → ℕ → ℕ → List ℕ → Scanned → Type 0
-PreparedIs b row stored size used nodes (Table n) = (stops b row stored size used ≡ never) × ScanIs used stored b nodes (Table n) (parsed Bound used stored b)
-PreparedIs b row stored size used nodes (Denied r) = stops b row stored size used ≡ stopOf r
+abbrev pub PreparedIs : List ℕ → List ℕ → ℕ → ℕ → List ℕ → Scanned → Type 0
+PreparedIs b row size used nodes (Table n) = (stops b row size used ≡ never) × ScanIs used b nodes (Table n) (parsed Bound used b)
+PreparedIs b row size used nodes (Denied r) = stops b row size used ≡ stopOf r

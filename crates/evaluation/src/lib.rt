@@ -1,7 +1,6 @@
 // The call `evaluate`: a bound condition on one row.
 ghost use mathlib.Core.Path.{_≡_};
-ghost use mathlib.Core.List.{List};
-ghost use Prim.Native.Nat.{ℕ, _<_};
+ghost use Prim.Native.Nat.{_<_};
 ghost use lib.ListN.{length};
 ghost use Rattle.refusals.specs.Stop.{checkedOf};
 ghost use Rattle.evaluation.specs.Evaluation.{isMissing, numbersStop, PreparedIs, EvaluatedIs};
@@ -55,7 +54,7 @@ pub fn check_numbers(b: &[u8], width: usize) -> Checked
 // All that is looked at before evaluation: the table of nodes, or what stops it.
 fn prepare(condition: &[u8], row: &[u64], size: usize, used: usize, nodes: &mut [u64]) -> Scanned
     requires { ⌜ length (now nodes) ≡ 64 ⌝ }
-    ensures { λ r. ⌜ ((stored : List ℕ) → PreparedIs (now (condition .entry)) (now (row .entry)) stored size used (now (nodes .exit)) r) ⌝ }
+    ensures { λ r. ⌜ PreparedIs (now (condition .entry)) (now (row .entry)) size used (now (nodes .exit)) r ⌝ }
 {
     let room = checks::check_room(size, used, 32768);
     if let Checked::Refused(r) = room {

@@ -9,21 +9,16 @@ use lib.ListN.{length, getD, set}
 use lib.Seq.{getD-set-same, getD-set-other}
 use lib.Dec.{ltb, leb, eqb}
 use borrow.Author.Tests.{lt-ltb, le-ltb, le-leb, lt-leb, eq-eqb, ne-eqb}
-use Rattle.conditions.specs.Ast.{Ast, literal, column, named, unary, binary, height, size}
-use Rattle.conditions.specs.Table.{nodeOf, leafOf}
+use Rattle.conditions.specs.Ast.{Tree, leaf, unary, binary, height, size}
+use Rattle.conditions.specs.Table.{nodeOf}
 use Rattle.conditions.specs.declared.Node.the-variants.{Leaf, One, Two}
-use Rattle.slices.specs.Splice.{piece}
-use Rattle.cells.specs.Cell.{startOf, lengthOf}
-use Rattle.values.specs.Value.{valueOf}
 use Rattle.forms.specs.Form.{Move, go, stop, pushed, onOne, onTwo}
-use Rattle.forms.specs.Held.{LeafHeld, LeafAt, Denotes, Held, Marks, StepIs}
+use Rattle.forms.specs.Held.{LeafHeld, Denotes, Held, Marks, StepIs}
 use Rattle.forms.specs.declared.Step.the-variants.{Took, Refused}
 
-pub size-pos : (t : Ast) → 0 < size t
+pub size-pos : (t : Tree ℕ) → 0 < size t
 unfolding size
-size-pos (literal v) = omega arith
-size-pos (column c) = omega arith
-size-pos (named m) = omega arith
+size-pos (leaf w) = omega arith
 size-pos (unary op a) = omega arith
 size-pos (binary op a b) = omega arith
 
@@ -47,92 +42,62 @@ other : (l : List ℕ) (n k w : ℕ) → k < n → getD (set l n w) k 0 ≡ getD
 other l n k w h = getD-set-other l n k w 0 (omega arith)
 
 -- a store at n changes no tree below n
-pub denotes-set : (used : ℕ) (base nodes : List ℕ) (n w k : ℕ) (t : Ast) → k < n → Denotes used base nodes k t → Denotes used base (set nodes n w) k t
+pub denotes-set : (used : ℕ) (nodes : List ℕ) (n w k : ℕ) (t : Tree ℕ) → k < n → Denotes used nodes k t → Denotes used (set nodes n w) k t
 unfolding Denotes
-denotes-set used base nodes n w k (literal v) h d = (d .0, ap nodeOf (other nodes n k w h) ∙ d .1, d .2, d .3)
-denotes-set used base nodes n w k (column c) h d = (d .0, ap nodeOf (other nodes n k w h) ∙ d .1, d .2, d .3)
-denotes-set used base nodes n w k (named m) h d = (d .0, ap nodeOf (other nodes n k w h) ∙ d .1, d .2, d .3)
-denotes-set used base nodes n w k (unary op a) h d =
-    (ap nodeOf (other nodes n k w h) ∙ d .0, d .1, d .2, denotes-set used base nodes n w (k - 1) a (omega (arith, d .2)) (d .3))
-denotes-set used base nodes n w k (binary op a b) h d = (
+denotes-set used nodes n w k (leaf x) h d = (ap nodeOf (other nodes n k w h) ∙ d .0, d .1)
+denotes-set used nodes n w k (unary op a) h d =
+    (ap nodeOf (other nodes n k w h) ∙ d .0, d .1, d .2, denotes-set used nodes n w (k - 1) a (omega (arith, d .2)) (d .3))
+denotes-set used nodes n w k (binary op a b) h d = (
   d .0,
   ap nodeOf (other nodes n k w h) ∙ d .1,
   d .2,
   d .3,
-  denotes-set used base nodes n w (d .0) a (omega (arith, d .3)) (d .4),
-  denotes-set used base nodes n w (k - 1) b (omega (arith, d .3)) (d .5),
+  denotes-set used nodes n w (d .0) a (omega (arith, d .3)) (d .4),
+  denotes-set used nodes n w (k - 1) b (omega (arith, d .3)) (d .5),
 )
 
-pub held-set : (used : ℕ) (base nodes starts deeps : List ℕ) (n w a e m : ℕ) (s : List Ast) → m ≤ n → Held used base nodes starts deeps m s →
-    Held used base (set nodes n w) (set starts n a) (set deeps n e) m s
+pub held-set : (used : ℕ) (nodes starts deeps : List ℕ) (n w a e m : ℕ) (s : List (Tree ℕ)) → m ≤ n → Held used nodes starts deeps m s →
+    Held used (set nodes n w) (set starts n a) (set deeps n e) m s
 unfolding Held
-held-set used base nodes starts deeps n w a e m [] h d = d
-held-set used base nodes starts deeps n w a e m (t ∷ s) h d =
+held-set used nodes starts deeps n w a e m [] h d = d
+held-set used nodes starts deeps n w a e m (t ∷ s) h d =
     let q : getD (set starts n a) (m - 1) 0 ≡ getD starts (m - 1) 0 = other starts n (m - 1) a (omega (arith, d .0)) in (
       d .0,
       ap (λ x. x + size t) q ∙ d .1,
       other deeps n (m - 1) e (omega (arith, d .0)) ∙ d .2,
-      denotes-set used base nodes n w (m - 1) t (omega (arith, d .0)) (d .3),
-      subst (λ x. Held used base (set nodes n w) (set starts n a) (set deeps n e) x s) (sym q)
-          (held-set used base nodes starts deeps n w a e (getD starts (m - 1) 0) s (omega (arith, d .1, size-pos t)) (d .4)),
+      denotes-set used nodes n w (m - 1) t (omega (arith, d .0)) (d .3),
+      subst (λ x. Held used (set nodes n w) (set starts n a) (set deeps n e) x s) (sym q)
+          (held-set used nodes starts deeps n w a e (getD starts (m - 1) 0) s (omega (arith, d .1, size-pos t)) (d .4)),
     )
 
-module _ (used : ℕ) (base nodes starts deeps : List ℕ) (n : ℕ) (small : n < 64) (M : Marks starts deeps n) (long : length nodes ≡ 64) where
+module _ (used : ℕ) (nodes starts deeps : List ℕ) (n : ℕ) (small : n < 64) (M : Marks starts deeps n) (long : length nodes ≡ 64) where
   -- a tree goes on the stack: its word at n, its start and its height
-  pub held-push : (w a e : ℕ) (t : Ast) (s : List Ast) → a + size t ≡ n + 1 → e ≡ height t → Denotes used base (set nodes n w) n t →
-      Held used base nodes starts deeps a s → Held used base (set nodes n w) (set starts n a) (set deeps n e) (n + 1) (t ∷ s)
+  pub held-push : (w a e : ℕ) (t : Tree ℕ) (s : List (Tree ℕ)) → a + size t ≡ n + 1 → e ≡ height t → Denotes used (set nodes n w) n t →
+      Held used nodes starts deeps a s → Held used (set nodes n w) (set starts n a) (set deeps n e) (n + 1) (t ∷ s)
   unfolding Held
   held-push w a e t s p q d h =
       rw (add-sub-cancel n 1, getD-set-same starts n a 0 (omega (arith, M .starts-long)), getD-set-same deeps n e 0 (omega (arith, M .deeps-long)))
-      (omega arith, p, q, d, held-set used base nodes starts deeps n w a e a s (omega (arith, size-pos t)) h)
+      (omega arith, p, q, d, held-set used nodes starts deeps n w a e a s (omega (arith, size-pos t)) h)
 
   -- the word that was stored
   stored : (w : ℕ) → getD (set nodes n w) n 0 ≡ w
   stored w = getD-set-same nodes n w 0 (omega arith)
 
-  -- a leaf is one node, of depth 1
-  pub leaf-size : (b : List ℕ) (w : ℕ) → size (leafOf b w) ≡ 1
-  unfolding leafOf size
-  leaf-size b w = by (eqb (w / 2 ^ 56) 4) (eqb (w / 2 ^ 56) 3)
-    where
-      by : (x y : Bool) → size (cond x (column (w % 2 ^ 56)) (cond y (named (piece (startOf w) (lengthOf w) b)) (literal (valueOf b w)))) ≡ 1
-      by true y = refl
-      by false true = refl
-      by false false = refl
+  pub leaf-held : (w : ℕ) (s : List (Tree ℕ)) → nodeOf w ≡ Leaf w → LeafHeld used w → Held used nodes starts deeps n s →
+      Held used (set nodes n w) (set starts n n) (set deeps n 1) (n + 1) (leaf w ∷ s)
+  unfolding Denotes size height
+  leaf-held w s e l h = held-push w n 1 (leaf w) s refl refl (ap nodeOf (stored w) ∙ e, l) h
 
-  pub leaf-height : (b : List ℕ) (w : ℕ) → height (leafOf b w) ≡ 1
-  unfolding leafOf height
-  leaf-height b w = by (eqb (w / 2 ^ 56) 4) (eqb (w / 2 ^ 56) 3)
-    where
-      by : (x y : Bool) → height (cond x (column (w % 2 ^ 56)) (cond y (named (piece (startOf w) (lengthOf w) b)) (literal (valueOf b w)))) ≡ 1
-      by true y = refl
-      by false true = refl
-      by false false = refl
-
-  leaf-denotes : (k : ℕ) (l : List ℕ) (t : Ast) → size t ≡ 1 → LeafAt used base l k t → Denotes used base l k t
-  unfolding Denotes size
-  leaf-denotes k l (literal v) e d = d
-  leaf-denotes k l (column c) e d = d
-  leaf-denotes k l (named m) e d = d
-  leaf-denotes k l (unary op a) e d = absurd (omega (arith, size-pos a))
-  leaf-denotes k l (binary op a b) e d = absurd (omega (arith, size-pos a))
-
-  pub leaf-held : (w : ℕ) (s : List Ast) → nodeOf w ≡ Leaf w → LeafHeld used w → Held used base nodes starts deeps n s →
-      Held used base (set nodes n w) (set starts n n) (set deeps n 1) (n + 1) (leafOf base w ∷ s)
-  leaf-held w s e l h =
-      held-push w n 1 (leafOf base w) s (rw (leaf-size base w)) (sym (leaf-height base w))
-      (leaf-denotes n (set nodes n w) (leafOf base w) (leaf-size base w) (w, ap nodeOf (stored w) ∙ e, refl, l)) h
-
-  pub one-held : (k : ℕ) (a : Ast) (s : List Ast) → 16 ≤ k → k < 19 → Held used base nodes starts deeps n (a ∷ s) →
-      Held used base (set nodes n (k * 2 ^ 56)) (set starts n (getD starts (n - 1) 0)) (set deeps n (getD deeps (n - 1) 0 + 1)) (n + 1) (unary k a ∷ s)
+  pub one-held : (k : ℕ) (a : Tree ℕ) (s : List (Tree ℕ)) → 16 ≤ k → k < 19 → Held used nodes starts deeps n (a ∷ s) →
+      Held used (set nodes n (k * 2 ^ 56)) (set starts n (getD starts (n - 1) 0)) (set deeps n (getD deeps (n - 1) 0 + 1)) (n + 1) (unary k a ∷ s)
   unfolding Held Denotes size height nodeOf
   one-held k a s l u h =
       let w : ℕ = k * 2 ^ 56 in
       held-push w (getD starts (n - 1) 0) (getD deeps (n - 1) 0 + 1) (unary k a) s (omega (arith, h .1)) (ap (λ x. x + 1) (h .2))
-      (ap nodeOf (stored w) ∙ one-node k l (omega arith), (l, u), h .0, denotes-set used base nodes n w (n - 1) a (omega (arith, h .0)) (h .3)) (h .4)
+      (ap nodeOf (stored w) ∙ one-node k l (omega arith), (l, u), h .0, denotes-set used nodes n w (n - 1) a (omega (arith, h .0)) (h .3)) (h .4)
 
-  pub two-held : (k : ℕ) (a b : Ast) (s : List Ast) → 32 ≤ k → k < 50 → (h : Held used base nodes starts deeps n (b ∷ (a ∷ s))) →
-      Held used base (set nodes n (k * 2 ^ 56 + (getD starts (n - 1) 0 - 1))) (set starts n (getD starts (getD starts (n - 1) 0 - 1) 0))
+  pub two-held : (k : ℕ) (a b : Tree ℕ) (s : List (Tree ℕ)) → 32 ≤ k → k < 50 → (h : Held used nodes starts deeps n (b ∷ (a ∷ s))) →
+      Held used (set nodes n (k * 2 ^ 56 + (getD starts (n - 1) 0 - 1))) (set starts n (getD starts (getD starts (n - 1) 0 - 1) 0))
       (set deeps n (max (getD deeps (getD starts (n - 1) 0 - 1) 0) (getD deeps (n - 1) 0) + 1)) (n + 1) (binary k a b ∷ s)
   unfolding Held Denotes size height
   two-held k a b s l u h =
@@ -144,43 +109,43 @@ module _ (used : ℕ) (base nodes starts deeps : List ℕ) (n : ℕ) (small : n 
         ap nodeOf (stored w) ∙ two-node k (r - 1) l (omega (arith, h .1, small)),
         (l, u),
         omega (arith, h .1, size-pos b),
-        denotes-set used base nodes n w (r - 1) a (omega (arith, h .1, size-pos b)) (h .4 .3),
-        denotes-set used base nodes n w (n - 1) b (omega (arith, h .0)) (h .3),
+        denotes-set used nodes n w (r - 1) a (omega (arith, h .1, size-pos b)) (h .4 .3),
+        denotes-set used nodes n w (n - 1) b (omega (arith, h .0)) (h .3),
       ) (h .4 .4)
 
   -- ---- the steps
 
-  pub one-empty : (k next : ℕ) (s : List Ast) → n ≡ 0 → Held used base nodes starts deeps n s → onOne k s next ≡ stop 1
+  pub one-empty : (k next : ℕ) (s : List (Tree ℕ)) → n ≡ 0 → Held used nodes starts deeps n s → onOne k s next ≡ stop 1
   unfolding Held
   one-empty k next [] e h = refl
   one-empty k next (a ∷ s) e h = absurd (omega (arith, h .0))
 
-  pub one-deep : (k next : ℕ) (s : List Ast) → (n ≡ 0 → ⊥) → 16 ≤ getD deeps (n - 1) 0 → Held used base nodes starts deeps n s → onOne k s next ≡ stop 2
+  pub one-deep : (k next : ℕ) (s : List (Tree ℕ)) → (n ≡ 0 → ⊥) → 16 ≤ getD deeps (n - 1) 0 → Held used nodes starts deeps n s → onOne k s next ≡ stop 2
   unfolding Held height
   one-deep k next [] e d h = absurd (e h)
   one-deep k next (a ∷ s) e d h = rw (lt-leb (height a + 1) 16 (omega (arith, h .2)))
 
-  pub one-step : (k next : ℕ) (s : List Ast) → 16 ≤ k → k < 19 → (n ≡ 0 → ⊥) → getD deeps (n - 1) 0 < 16 → Held used base nodes starts deeps n s →
-      StepIs used base nodes starts deeps n (Took (k * 2 ^ 56) (getD starts (n - 1) 0) (getD deeps (n - 1) 0 + 1) next) (onOne k s next)
+  pub one-step : (k next : ℕ) (s : List (Tree ℕ)) → 16 ≤ k → k < 19 → (n ≡ 0 → ⊥) → getD deeps (n - 1) 0 < 16 → Held used nodes starts deeps n s →
+      StepIs used nodes starts deeps n (Took (k * 2 ^ 56) (getD starts (n - 1) 0) (getD deeps (n - 1) 0 + 1) next) (onOne k s next)
   unfolding height
   one-step k next [] l u e d h = absurd (e (unfold Held in h))
   one-step k next (a ∷ s) l u e d h =
       let q : getD deeps (n - 1) 0 ≡ height a = unfold Held in (h .2) in
       (unary k a, s, rw (le-leb (height a + 1) 16 (omega arith)), one-held k a s l u h)
 
-  pub two-empty : (k next : ℕ) (s : List Ast) → n ≡ 0 → Held used base nodes starts deeps n s → onTwo k s next ≡ stop 1
+  pub two-empty : (k next : ℕ) (s : List (Tree ℕ)) → n ≡ 0 → Held used nodes starts deeps n s → onTwo k s next ≡ stop 1
   unfolding Held
   two-empty k next [] e h = refl
   two-empty k next (b ∷ []) e h = absurd (omega (arith, h .0))
   two-empty k next (b ∷ (a ∷ s)) e h = absurd (omega (arith, h .0))
 
-  pub two-single : (k next : ℕ) (s : List Ast) → (n ≡ 0 → ⊥) → getD starts (n - 1) 0 ≡ 0 → Held used base nodes starts deeps n s → onTwo k s next ≡ stop 1
+  pub two-single : (k next : ℕ) (s : List (Tree ℕ)) → (n ≡ 0 → ⊥) → getD starts (n - 1) 0 ≡ 0 → Held used nodes starts deeps n s → onTwo k s next ≡ stop 1
   unfolding Held
   two-single k next [] e r h = absurd (e h)
   two-single k next (b ∷ []) e r h = refl
   two-single k next (b ∷ (a ∷ s)) e r h = absurd (omega (arith, h .4 .0))
 
-  module _ (k next : ℕ) (s : List Ast) (e : n ≡ 0 → ⊥) (r : getD starts (n - 1) 0 ≡ 0 → ⊥) (h : Held used base nodes starts deeps n s) where
+  module _ (k next : ℕ) (s : List (Tree ℕ)) (e : n ≡ 0 → ⊥) (r : getD starts (n - 1) 0 ≡ 0 → ⊥) (h : Held used nodes starts deeps n s) where
     abbrev higher : ℕ
     higher = max (getD deeps (getD starts (n - 1) 0 - 1) 0) (getD deeps (n - 1) 0)
 
@@ -188,7 +153,7 @@ module _ (used : ℕ) (base nodes starts deeps : List ℕ) (n : ℕ) (small : n 
     unfolding height
     two-deep d = by s h
       where
-        by : (s : List Ast) → Held used base nodes starts deeps n s → onTwo k s next ≡ stop 2
+        by : (s : List (Tree ℕ)) → Held used nodes starts deeps n s → onTwo k s next ≡ stop 2
         by [] h = absurd (e (unfold Held in h))
         by (b ∷ []) h = absurd (r (unfold Held in (h .4)))
         by (b ∷ (a ∷ s)) h =
@@ -196,12 +161,12 @@ module _ (used : ℕ) (base nodes starts deeps : List ℕ) (n : ℕ) (small : n 
             rw (lt-leb (max (height a) (height b) + 1) 16 (omega arith))
 
     pub two-step : 32 ≤ k → k < 50 → higher < 16 →
-        StepIs used base nodes starts deeps n (Took (k * 2 ^ 56 + (getD starts (n - 1) 0 - 1)) (getD starts (getD starts (n - 1) 0 - 1) 0) (higher + 1) next) (onTwo k s next)
+        StepIs used nodes starts deeps n (Took (k * 2 ^ 56 + (getD starts (n - 1) 0 - 1)) (getD starts (getD starts (n - 1) 0 - 1) 0) (higher + 1) next) (onTwo k s next)
     unfolding height
     two-step l u d = by s h
       where
-        by : (s : List Ast) → Held used base nodes starts deeps n s →
-            StepIs used base nodes starts deeps n (Took (k * 2 ^ 56 + (getD starts (n - 1) 0 - 1)) (getD starts (getD starts (n - 1) 0 - 1) 0) (higher + 1) next) (onTwo k s next)
+        by : (s : List (Tree ℕ)) → Held used nodes starts deeps n s →
+            StepIs used nodes starts deeps n (Took (k * 2 ^ 56 + (getD starts (n - 1) 0 - 1)) (getD starts (getD starts (n - 1) 0 - 1) 0) (higher + 1) next) (onTwo k s next)
         by [] h = absurd (e (unfold Held in h))
         by (b ∷ []) h = absurd (r (unfold Held in (h .4)))
         by (b ∷ (a ∷ s)) h =

@@ -8,8 +8,8 @@ use lib.Dec.{eqb}
 use Rattle.refusals.specs.Told.{told}
 use Rattle.cells.specs.Cell.{WellFormed, startOf, lengthOf}
 use Rattle.nodes.specs.Kind.{leafWord}
-use Rattle.conditions.specs.Ast.{Ast, literal, column, named, unary, binary, height, size}
-use Rattle.conditions.specs.Table.{nodeOf, leafOf}
+use Rattle.conditions.specs.Ast.{Tree, leaf, unary, binary, height, size}
+use Rattle.conditions.specs.Table.{nodeOf}
 use Rattle.conditions.specs.declared.Node.the-variants.{Leaf, One, Two}
 use Rattle.forms.specs.Form.{Parsed, tree, refusal, Move, go, stop}
 use Rattle.forms.specs.declared.Step.{Step}
@@ -21,24 +21,19 @@ use Rattle.forms.specs.declared.Scanned.the-variants.{Table, Denied}
 unfoldable pub LeafHeld : ℕ → ℕ → Type 0
 LeafHeld used w = cond (eqb (w / 2 ^ 56) 4) (Unit {0}) (cond (eqb (w / 2 ^ 56) 3) (startOf w + lengthOf w ≤ used) (WellFormed used w))
 
-abbrev pub LeafAt : ℕ → List ℕ → List ℕ → ℕ → Ast → Type 0
-LeafAt used base nodes k t = (w : ℕ) × (nodeOf (getD nodes k 0) ≡ Leaf w) × (leafOf base w ≡ t) × LeafHeld used w
-
 -- at k of the table stands the tree
-unfoldable pub Denotes : ℕ → List ℕ → List ℕ → ℕ → Ast → Type 0
-Denotes used base nodes k (literal v) = LeafAt used base nodes k (literal v)
-Denotes used base nodes k (column c) = LeafAt used base nodes k (column c)
-Denotes used base nodes k (named name) = LeafAt used base nodes k (named name)
-Denotes used base nodes k (unary op a) = (nodeOf (getD nodes k 0) ≡ One op) × ((16 ≤ op) × (op < 19)) × (0 < k) × Denotes used base nodes (k - 1) a
-Denotes used base nodes k (binary op a b) =
-    (l : ℕ) × (nodeOf (getD nodes k 0) ≡ Two op l) × ((32 ≤ op) × (op < 50)) × (l < k) × Denotes used base nodes l a × Denotes used base nodes (k - 1) b
+unfoldable pub Denotes : ℕ → List ℕ → ℕ → Tree ℕ → Type 0
+Denotes used nodes k (leaf w) = (nodeOf (getD nodes k 0) ≡ Leaf w) × LeafHeld used w
+Denotes used nodes k (unary op a) = (nodeOf (getD nodes k 0) ≡ One op) × ((16 ≤ op) × (op < 19)) × (0 < k) × Denotes used nodes (k - 1) a
+Denotes used nodes k (binary op a b) =
+    (l : ℕ) × (nodeOf (getD nodes k 0) ≡ Two op l) × ((32 ≤ op) × (op < 50)) × (l < k) × Denotes used nodes l a × Denotes used nodes (k - 1) b
 
 -- the first n nodes are the trees of a stack, the top one last: `starts` has where each begins, `deeps` its height
-unfoldable pub Held : ℕ → List ℕ → List ℕ → List ℕ → List ℕ → ℕ → List Ast → Type 0
-Held used base nodes starts deeps n [] = n ≡ 0
-Held used base nodes starts deeps n (t ∷ s) =
-    (0 < n) × (getD starts (n - 1) 0 + size t ≡ n) × (getD deeps (n - 1) 0 ≡ height t) × Denotes used base nodes (n - 1) t
-    × Held used base nodes starts deeps (getD starts (n - 1) 0) s
+unfoldable pub Held : ℕ → List ℕ → List ℕ → List ℕ → ℕ → List (Tree ℕ) → Type 0
+Held used nodes starts deeps n [] = n ≡ 0
+Held used nodes starts deeps n (t ∷ s) =
+    (0 < n) × (getD starts (n - 1) 0 + size t ≡ n) × (getD deeps (n - 1) 0 ≡ height t) × Denotes used nodes (n - 1) t
+    × Held used nodes starts deeps (getD starts (n - 1) 0) s
 
 -- the tables as numbers
 pub record Marks (starts deeps : List ℕ) (n : ℕ) : Type 0 where
@@ -48,10 +43,10 @@ pub record Marks (starts deeps : List ℕ) (n : ℕ) : Type 0 where
   pub shallow : (i : ℕ) → i < n → getD deeps i 0 ≤ 16
 
 -- what one step of the scan says of the definition's move, whatever the stack that the tables hold
-abbrev pub StepIs : ℕ → List ℕ → List ℕ → List ℕ → List ℕ → ℕ → Step → Move → Type 0
-StepIs used base nodes starts deeps n (Took word start deep next) m =
-    (t : Ast) × (s : List Ast) × (m ≡ go (t ∷ s) next) × Held used base (set nodes n word) (set starts n start) (set deeps n deep) (n + 1) (t ∷ s)
-StepIs used base nodes starts deeps n (Refused r) m = m ≡ stop (told r .number)
+abbrev pub StepIs : ℕ → List ℕ → List ℕ → List ℕ → ℕ → Step → Move → Type 0
+StepIs used nodes starts deeps n (Took word start deep next) m =
+    (t : Tree ℕ) × (s : List (Tree ℕ)) × (m ≡ go (t ∷ s) next) × Held used (set nodes n word) (set starts n start) (set deeps n deep) (n + 1) (t ∷ s)
+StepIs used nodes starts deeps n (Refused r) m = m ≡ stop (told r .number)
 
 -- and as numbers: it goes on, within the bytes, or is refused at this offset; the first node is a leaf, and its word is read off the bytes
 abbrev pub StepFine : ℕ → ℕ → List ℕ → Step → Type 0
@@ -64,8 +59,8 @@ OperatorFine at n next (Took word start deep after) = (start ≤ n) × (deep ≤
 OperatorFine at n next (Refused r) = told r .place ≡ at
 
 -- what the whole scan says of the definition; the first word of the table is that of the first leaf
-abbrev pub ScanIs : ℕ → List ℕ → List ℕ → List ℕ → Scanned → Parsed → Type 0
-ScanIs used base b nodes (Table n) p =
-    (t : Ast) × (p ≡ tree t) × (0 < n) × (size t ≡ n) × (n ≤ 64) × (height t ≤ 16) × Denotes used base nodes (n - 1) t
+abbrev pub ScanIs : ℕ → List ℕ → List ℕ → Scanned → Parsed → Type 0
+ScanIs used b nodes (Table n) p =
+    (t : Tree ℕ) × (p ≡ tree t) × (0 < n) × (size t ≡ n) × (n ≤ 64) × (height t ≤ 16) × Denotes used nodes (n - 1) t
     × (getD nodes 0 0 ≡ leafWord b 0 (getD b 0 0))
-ScanIs used base b nodes (Denied r) p = p ≡ refusal (told r .number) (told r .place)
+ScanIs used b nodes (Denied r) p = p ≡ refusal (told r .number) (told r .place)

@@ -3,7 +3,7 @@ ghost use mathlib.Core.Path.{_≡_};
 ghost use mathlib.Core.List.{List};
 ghost use Prim.Native.Nat.{ℕ, _+_, _*_, _<_, _≤_, _^_, max};
 ghost use lib.ListN.{length, getD, set};
-ghost use Rattle.conditions.specs.Ast.{Ast};
+ghost use Rattle.conditions.specs.Ast.{Tree};
 ghost use Rattle.forms.specs.Form.{onOne, onTwo, nodeAt, parsed};
 ghost use Rattle.forms.specs.Held.{Held, Marks, StepIs, StepFine, OperatorFine, ScanIs};
 use nodes::Allowed;
@@ -36,8 +36,8 @@ fn larger(a: usize, b: usize) -> usize
 fn scan_one(k: u64, at: usize, next: usize, starts: &[usize], deeps: &[usize], n: usize) -> Step
     requires { ⌜ (((16 ≤ k) × (k < 19)) × ((n < 64) × Marks (now starts) (now deeps) n)) ⌝ }
     ensures fine { λ r. ⌜ OperatorFine at n next r ⌝ }
-    ensures is { λ r. ⌜ ((used : ℕ) (base nodes : List ℕ) (s : List Ast) → length nodes ≡ 64 → Held used base nodes (now (starts .entry)) (now (deeps .entry)) n s →
-        StepIs used base nodes (now (starts .entry)) (now (deeps .entry)) n r (onOne k s next)) ⌝ }
+    ensures is { λ r. ⌜ ((used : ℕ) (nodes : List ℕ) (s : List (Tree ℕ)) → length nodes ≡ 64 → Held used nodes (now (starts .entry)) (now (deeps .entry)) n s →
+        StepIs used nodes (now (starts .entry)) (now (deeps .entry)) n r (onOne k s next)) ⌝ }
 {
     if n == 0 {
         return Step::Refused(Refusal::NotACondition(at));
@@ -59,8 +59,8 @@ fn scan_one(k: u64, at: usize, next: usize, starts: &[usize], deeps: &[usize], n
 fn scan_two(k: u64, at: usize, next: usize, starts: &[usize], deeps: &[usize], n: usize) -> Step
     requires { ⌜ (((32 ≤ k) × (k < 50)) × ((n < 64) × Marks (now starts) (now deeps) n)) ⌝ }
     ensures fine { λ r. ⌜ OperatorFine at n next r ⌝ }
-    ensures is { λ r. ⌜ ((used : ℕ) (base nodes : List ℕ) (s : List Ast) → length nodes ≡ 64 → Held used base nodes (now (starts .entry)) (now (deeps .entry)) n s →
-        StepIs used base nodes (now (starts .entry)) (now (deeps .entry)) n r (onTwo k s next)) ⌝ }
+    ensures is { λ r. ⌜ ((used : ℕ) (nodes : List ℕ) (s : List (Tree ℕ)) → length nodes ≡ 64 → Held used nodes (now (starts .entry)) (now (deeps .entry)) n s →
+        StepIs used nodes (now (starts .entry)) (now (deeps .entry)) n r (onTwo k s next)) ⌝ }
 {
     if n == 0 {
         return Step::Refused(Refusal::NotACondition(at));
@@ -94,8 +94,8 @@ fn scan_node(
 ) -> Step
     requires { ⌜ (at < length (now b)) × ((n < 64) × Marks (now starts) (now deeps) n) ⌝ }
     ensures fine { λ r. ⌜ StepFine at n (now (b .entry)) r ⌝ }
-    ensures is { λ r. ⌜ ((base nodes : List ℕ) (s : List Ast) → length nodes ≡ 64 → Held used base nodes (now (starts .entry)) (now (deeps .entry)) n s →
-        StepIs used base nodes (now (starts .entry)) (now (deeps .entry)) n r (nodeAt form used base (now (b .entry)) at (getD (now (b .entry)) at 0) s)) ⌝ }
+    ensures is { λ r. ⌜ ((nodes : List ℕ) (s : List (Tree ℕ)) → length nodes ≡ 64 → Held used nodes (now (starts .entry)) (now (deeps .entry)) n s →
+        StepIs used nodes (now (starts .entry)) (now (deeps .entry)) n r (nodeAt form used (now (b .entry)) at (getD (now (b .entry)) at 0) s)) ⌝ }
 {
     let k = nodes::wide(b[at]);
     if !nodes::is_known(form, k) {
@@ -126,7 +126,7 @@ fn scan_node(
 // The whole scan: the table of nodes, or the first refusal.
 pub fn scan(form: Allowed, b: &[u8], used: usize, nodes: &mut [u64]) -> Scanned
     requires { ⌜ length (now nodes) ≡ 64 ⌝ }
-    ensures { λ r. ⌜ ((base : List ℕ) → ScanIs used base (now (b .entry)) (now (nodes .exit)) r (parsed form used base (now (b .entry)))) ⌝ }
+    ensures { λ r. ⌜ ScanIs used (now (b .entry)) (now (nodes .exit)) r (parsed form used (now (b .entry))) ⌝ }
 {
     let mut starts = [0usize; 64];
     let mut deeps = [0usize; 64];

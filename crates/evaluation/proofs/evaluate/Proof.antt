@@ -3,7 +3,7 @@ use denote.Ref.{now}
 use mathlib.Core.Path.{_≡_, refl, sym, subst, _∙_}
 use mathlib.Core.List.{List}
 use Prim.Native.Nat.{ℕ, _-_, _≤_}
-use lib.ListN.{length, take, getD}
+use lib.ListN.{length, getD}
 use Rattle.integers.specs.declared.Answer.{Answer}
 use Rattle.operators.specs.declared.Rules.{Rules}
 use Rattle.conditions.specs.Table.{nodeOf, Asks, Answers, Lies}
@@ -23,10 +23,10 @@ module _ (c : tie.After-known-told2) where
   abbrev nodes : List ℕ
   nodes = c .before .before .before .before .prepare .last .1 .1 .1 .1 .0
 
-  ready : PreparedIs (now (c .before .before .before .before .before .before .before .before .before .args .condition)) (now (c .before .before .before .before .before .before .before .before .before .args .row)) (take (c .before .before .before .before .before .before .before .before .before .args .used) (now (c .before .before .before .before .before .before .before .before .before .args .text))) (length (now (c .before .before .before .before .before .before .before .before .before .args .text))) (c .before .before .before .before .before .before .before .before .before .args .used) nodes (Table (c .before .n .given .0 .0))
+  ready : PreparedIs (now (c .before .before .before .before .before .before .before .before .before .args .condition)) (now (c .before .before .before .before .before .before .before .before .before .args .row)) (length (now (c .before .before .before .before .before .before .before .before .before .args .text))) (c .before .before .before .before .before .before .before .before .before .args .used) nodes (Table (c .before .n .given .0 .0))
   ready =
-      subst (PreparedIs (now (c .before .before .before .before .before .before .before .before .before .args .condition)) (now (c .before .before .before .before .before .before .before .before .before .args .row)) (take (c .before .before .before .before .before .before .before .before .before .args .used) (now (c .before .before .before .before .before .before .before .before .before .args .text))) (length (now (c .before .before .before .before .before .before .before .before .before .args .text))) (c .before .before .before .before .before .before .before .before .before .args .used) nodes)
-      (c .before .n .given .1) (c .before .before .before .before .prepare .ensures (take (c .before .before .before .before .before .before .before .before .before .args .used) (now (c .before .before .before .before .before .before .before .before .before .args .text))))
+      subst (PreparedIs (now (c .before .before .before .before .before .before .before .before .before .args .condition)) (now (c .before .before .before .before .before .before .before .before .before .args .row)) (length (now (c .before .before .before .before .before .before .before .before .before .args .text))) (c .before .before .before .before .before .before .before .before .before .args .used) nodes)
+      (c .before .n .given .1) (c .before .before .before .before .prepare .ensures)
 
   begins : 1 ≤ c .before .n .given .0 .0
   begins = some base (omega arith) (now (c .before .before .before .before .before .before .before .before .before .args .condition)) (now (c .before .before .before .before .before .before .before .before .before .args .row)) (now (c .before .before .before .before .before .before .before .before .before .args .text)) (λ i. c .before .before .before .before .before .before .before .before .shared-slice-known .given i .fits) _ _ nodes (c .before .before .before .before .prepare .kept .1 .1 .1 .1 .0) ready
@@ -74,7 +74,7 @@ enum-told-3 : tie.Need-enum-told-3
 enum-told-3 c = search needs
 
 returns : tie.Need-returns
-returns c = denied base (now (c .before .before .before .before .before .before .before .before .before .args .condition)) (now (c .before .before .before .before .before .before .before .before .before .args .row)) (now (c .before .before .before .before .before .before .before .before .before .args .text)) (c .before .before .before .before .before .before .before .before .before .args .used) (c .before .r .given .0 .0) (subst (PreparedIs (now (c .before .before .before .before .before .before .before .before .before .args .condition)) (now (c .before .before .before .before .before .before .before .before .before .args .row)) (take (c .before .before .before .before .before .before .before .before .before .args .used) (now (c .before .before .before .before .before .before .before .before .before .args .text))) (length (now (c .before .before .before .before .before .before .before .before .before .args .text))) (c .before .before .before .before .before .before .before .before .before .args .used) (c .before .before .before .before .prepare .last .1 .1 .1 .1 .0)) (c .before .r .given .1) (c .before .before .before .before .prepare .ensures (take (c .before .before .before .before .before .before .before .before .before .args .used) (now (c .before .before .before .before .before .before .before .before .before .args .text)))))
+returns c = denied base (now (c .before .before .before .before .before .before .before .before .before .args .condition)) (now (c .before .before .before .before .before .before .before .before .before .args .row)) (now (c .before .before .before .before .before .before .before .before .before .args .text)) (c .before .before .before .before .before .before .before .before .before .args .used) (c .before .r .given .0 .0) (subst (PreparedIs (now (c .before .before .before .before .before .before .before .before .before .args .condition)) (now (c .before .before .before .before .before .before .before .before .before .args .row)) (length (now (c .before .before .before .before .before .before .before .before .before .args .text))) (c .before .before .before .before .before .before .before .before .before .args .used) (c .before .before .before .before .prepare .last .1 .1 .1 .1 .0)) (c .before .r .given .1) (c .before .before .before .before .prepare .ensures))
 
 same-length : tie.Need-same-length
 same-length c = search needs

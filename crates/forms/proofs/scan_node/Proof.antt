@@ -22,7 +22,7 @@ is-known-requires : tie.Need-is-known-requires
 is-known-requires c κs = search needs
 
 returns : tie.Need-returns
-returns c = (refl, λ base nodes s l h. unknown _ _ _ _ _ (c .before .before .wide .ensures .0) base s (sym (c .before .is-known .ensures) ∙ not-true _ (c .if1 .taken)))
+returns c = (refl, λ nodes s l h. unknown _ _ _ _ _ (c .before .before .wide .ensures .0) s (sym (c .before .is-known .ensures) ∙ not-true _ (c .if1 .taken)))
 
 body-of-requires : tie.Need-body-of-requires
 body-of-requires c κs = search needs
@@ -36,7 +36,7 @@ sub-if2 c = search needs
 returns-2 : tie.Need-returns-2
 returns-2 c = (
   refl,
-  λ base nodes s l h. cut _ _ _ _ _ (c .before .before .before .before .wide .ensures .0) base s (sym (c .before .before .before .is-known .ensures) ∙ not-false _ (c .before .before .if1 .left))
+  λ nodes s l h. cut _ _ _ _ _ (c .before .before .before .before .wide .ensures .0) s (sym (c .before .before .before .is-known .ensures) ∙ not-false _ (c .before .before .if1 .left))
       (let q : c .before .body-of .result ≡ bodyOf (c .before .before .before .before .wide .result) = c .before .body-of .ensures in omega (arith, c .if2 .taken, c .before .before .before .before .before .before .before .before .before .pre .0)),
 )
 
@@ -53,10 +53,10 @@ returns-3 : tie.Need-returns-3
 returns-3 c = (
   fine-step (c .before .before .before .before .before .before .before .before .before .before .before .args .at) (c .before .before .before .before .before .before .before .before .before .before .before .args .n) (c .before .before .before .before .before .before .before .before .before .before .before .args .at + 1 + c .before .before .before .body-of .result) (now (c .before .before .before .before .before .before .before .before .before .before .before .args .b)) (c .scan-two .result) (omega arith)
       (omega (arith, c .before .before .if2 .left, c .before .before .before .before .before .before .before .before .before .before .before .pre .0)) (c .scan-two .ensures .0),
-  λ base nodes s l h. two-is (c .before .before .before .before .before .before .before .before .before .before .before .args .form) (c .before .before .before .before .before .before .before .before .before .before .before .args .used) (c .before .before .before .before .before .before .before .before .before .before .before .args .at) (now (c .before .before .before .before .before .before .before .before .before .before .before .args .b)) (c .before .before .before .before .before .before .wide .result) (c .before .before .before .before .before .before .wide .ensures .0) base s
+  λ nodes s l h. two-is (c .before .before .before .before .before .before .before .before .before .before .before .args .form) (c .before .before .before .before .before .before .before .before .before .before .before .args .used) (c .before .before .before .before .before .before .before .before .before .before .before .args .at) (now (c .before .before .before .before .before .before .before .before .before .before .before .args .b)) (c .before .before .before .before .before .before .wide .result) (c .before .before .before .before .before .before .wide .ensures .0) s
       (sym (c .before .before .before .before .before .is-known .ensures) ∙ not-false _ (c .before .before .before .before .if1 .left))
       (let q : c .before .before .before .body-of .result ≡ bodyOf (c .before .before .before .before .before .before .wide .result) = c .before .before .before .body-of .ensures in omega (arith, c .before .before .if2 .left, c .before .before .before .before .before .before .before .before .before .before .before .pre .0))
-      nodes (now (c .before .before .before .before .before .before .before .before .before .before .before .args .starts)) (now (c .before .before .before .before .before .before .before .before .before .before .before .args .deeps)) (c .before .before .before .before .before .before .before .before .before .before .before .args .n) _ (c .scan-two .result) (c .before .before .before .body-of .ensures) (c .before .if3 .taken) (c .scan-two .ensures .1 _ base nodes s l h),
+      nodes (now (c .before .before .before .before .before .before .before .before .before .before .before .args .starts)) (now (c .before .before .before .before .before .before .before .before .before .before .before .args .deeps)) (c .before .before .before .before .before .before .before .before .before .before .before .args .n) _ (c .scan-two .result) (c .before .before .before .body-of .ensures) (c .before .if3 .taken) (c .scan-two .ensures .1 _ nodes s l h),
 )
 
 scan-one-requires : tie.Need-scan-one-requires
@@ -66,10 +66,10 @@ returns-4 : tie.Need-returns-4
 returns-4 c = (
   fine-step (c .before .before .before .before .before .before .before .before .before .before .before .before .args .at) (c .before .before .before .before .before .before .before .before .before .before .before .before .args .n) (c .before .before .before .before .before .before .before .before .before .before .before .before .args .at + 1 + c .before .before .before .before .body-of .result) (now (c .before .before .before .before .before .before .before .before .before .before .before .before .args .b)) (c .scan-one .result) (omega arith)
       (omega (arith, c .before .before .before .if2 .left, c .before .before .before .before .before .before .before .before .before .before .before .before .pre .0)) (c .scan-one .ensures .0),
-  λ base nodes s l h. one-is (c .before .before .before .before .before .before .before .before .before .before .before .before .args .form) (c .before .before .before .before .before .before .before .before .before .before .before .before .args .used) (c .before .before .before .before .before .before .before .before .before .before .before .before .args .at) (now (c .before .before .before .before .before .before .before .before .before .before .before .before .args .b)) (c .before .before .before .before .before .before .before .wide .result) (c .before .before .before .before .before .before .before .wide .ensures .0) base s
+  λ nodes s l h. one-is (c .before .before .before .before .before .before .before .before .before .before .before .before .args .form) (c .before .before .before .before .before .before .before .before .before .before .before .before .args .used) (c .before .before .before .before .before .before .before .before .before .before .before .before .args .at) (now (c .before .before .before .before .before .before .before .before .before .before .before .before .args .b)) (c .before .before .before .before .before .before .before .wide .result) (c .before .before .before .before .before .before .before .wide .ensures .0) s
       (sym (c .before .before .before .before .before .before .is-known .ensures) ∙ not-false _ (c .before .before .before .before .before .if1 .left))
       (let q : c .before .before .before .before .body-of .result ≡ bodyOf (c .before .before .before .before .before .before .before .wide .result) = c .before .before .before .before .body-of .ensures in omega (arith, c .before .before .before .if2 .left, c .before .before .before .before .before .before .before .before .before .before .before .before .pre .0))
-      nodes (now (c .before .before .before .before .before .before .before .before .before .before .before .before .args .starts)) (now (c .before .before .before .before .before .before .before .before .before .before .before .before .args .deeps)) (c .before .before .before .before .before .before .before .before .before .before .before .before .args .n) _ (c .scan-one .result) (c .before .before .before .before .body-of .ensures) (c .before .if4 .taken) (c .before .before .if3 .left) (c .scan-one .ensures .1 _ base nodes s l h),
+      nodes (now (c .before .before .before .before .before .before .before .before .before .before .before .before .args .starts)) (now (c .before .before .before .before .before .before .before .before .before .before .before .before .args .deeps)) (c .before .before .before .before .before .before .before .before .before .before .before .before .args .n) _ (c .scan-one .result) (c .before .before .before .before .body-of .ensures) (c .before .if4 .taken) (c .before .before .if3 .left) (c .scan-one .ensures .1 _ nodes s l h),
 )
 
 text-fits-requires : tie.Need-text-fits-requires
@@ -78,7 +78,7 @@ text-fits-requires c κs = (let q : c .before .before .before .body-of .result �
 returns-5 : tie.Need-returns-5
 returns-5 c = (
   refl,
-  λ base nodes s l h. text-out _ _ _ _ _ (c .before .before .before .before .before .before .before .before .wide .ensures .0) base s (sym (c .before .before .before .before .before .before .before .is-known .ensures) ∙ not-false _ (c .before .before .before .before .before .before .if1 .left))
+  λ nodes s l h. text-out _ _ _ _ _ (c .before .before .before .before .before .before .before .before .wide .ensures .0) s (sym (c .before .before .before .before .before .before .before .is-known .ensures) ∙ not-false _ (c .before .before .before .before .before .before .if1 .left))
       (let q : c .before .before .before .before .before .body-of .result ≡ bodyOf (c .before .before .before .before .before .before .before .before .wide .result) = c .before .before .before .before .before .body-of .ensures in omega (arith, c .before .before .before .before .if2 .left, c .before .before .before .before .before .before .before .before .before .before .before .before .before .pre .0)) (c .before .before .if4 .left)
       (sym (c .before .text-fits .ensures) ∙ not-true _ (c .if5 .taken)),
 )
@@ -90,7 +90,7 @@ leaf-word-requires c κs =
 returns-6 : tie.Need-returns-6
 returns-6 c = (
   (omega arith, lit≤ tt, omega arith, omega (arith, c .before .before .before .before .before .if2 .left, c .before .before .before .before .before .before .before .before .before .before .before .before .before .before .pre .0), λ z. c .leaf-word .ensures ∙ ap (leafWord (now (c .before .before .before .before .before .before .before .before .before .before .before .before .before .before .args .b)) (c .before .before .before .before .before .before .before .before .before .before .before .before .before .before .args .at)) (c .before .before .before .before .before .before .before .before .before .wide .ensures .0)),
-  λ base nodes s l h. leaf-step _ _ _ _ _ (c .before .before .before .before .before .before .before .before .before .wide .ensures .0) base s (sym (c .before .before .before .before .before .before .before .before .is-known .ensures) ∙ not-false _ (c .before .before .before .before .before .before .before .if1 .left))
+  λ nodes s l h. leaf-step _ _ _ _ _ (c .before .before .before .before .before .before .before .before .before .wide .ensures .0) s (sym (c .before .before .before .before .before .before .before .before .is-known .ensures) ∙ not-false _ (c .before .before .before .before .before .before .before .if1 .left))
       (let q : c .before .before .before .before .before .before .body-of .result ≡ bodyOf (c .before .before .before .before .before .before .before .before .before .wide .result) = c .before .before .before .before .before .before .body-of .ensures in omega (arith, c .before .before .before .before .before .if2 .left, c .before .before .before .before .before .before .before .before .before .before .before .before .before .before .pre .0))
       nodes _ _ _ _ _ (c .before .before .before .before .before .before .before .before .before .before .before .before .before .before .pre .1 .0) (c .before .before .before .before .before .before .before .before .before .before .before .before .before .before .pre .1 .1) l (λ i. c .before .before .before .before .before .before .before .before .before .before .shared-slice-known4 .given i .fits) (c .before .before .before .if4 .left) (sym (c .before .before .text-fits .ensures) ∙ not-false _ (c .before .if5 .left))
       (ap (λ x. c .before .before .before .before .before .before .before .before .before .before .before .before .before .before .args .at + 1 + x) (c .before .before .before .before .before .before .body-of .ensures)) (c .leaf-word .ensures) h,

@@ -9,7 +9,7 @@ use Rattle.forms.proofs.scan_two.Statement.{statement}
 use Rattle.forms.proofs.scan_two.Tie as tie
 
 returns : tie.Need-returns
-returns c = (refl, λ used base nodes s l h. two-empty used base nodes _ _ _ (c .before .before .before .pre .1 .0) (c .before .before .before .pre .1 .1) l _ _ s (c .if1 .taken) h)
+returns c = (refl, λ used nodes s l h. two-empty used nodes _ _ _ (c .before .before .before .pre .1 .0) (c .before .before .before .pre .1 .1) l _ _ s (c .if1 .taken) h)
 
 sub-right : tie.Need-sub-right
 sub-right c = search needs
@@ -21,7 +21,7 @@ shared-slice-read-right : tie.Need-shared-slice-read-right
 shared-slice-read-right c = search needs
 
 returns-2 : tie.Need-returns-2
-returns-2 c = (refl, λ used base nodes s l h. two-single used base nodes _ _ _ (c .before .before .before .before .before .pre .1 .0) (c .before .before .before .before .before .pre .1 .1) l _ _ s (c .before .before .if1 .left) (c .if2 .taken) h)
+returns-2 c = (refl, λ used nodes s l h. two-single used nodes _ _ _ (c .before .before .before .before .before .pre .1 .0) (c .before .before .before .before .before .pre .1 .1) l _ _ s (c .before .before .if1 .left) (c .if2 .taken) h)
 
 sub-l : tie.Need-sub-l
 sub-l c = search needs
@@ -47,7 +47,7 @@ larger-requires c κs = search needs
 returns-3 : tie.Need-returns-3
 returns-3 c = (
   refl,
-  λ used base nodes s l h. two-deep used base nodes _ _ _ (c .before .before .before .before .before .before .before .before .before .pre .1 .0) (c .before .before .before .before .before .before .before .before .before .pre .1 .1) l _ _ s (c .before .before .before .before .before .before .if1 .left) (c .before .before .before .before .if2 .left) h (rw (c .before .larger .ensures) at (c .if3 .taken)),
+  λ used nodes s l h. two-deep used nodes _ _ _ (c .before .before .before .before .before .before .before .before .before .pre .1 .0) (c .before .before .before .before .before .before .before .before .before .pre .1 .1) l _ _ s (c .before .before .before .before .before .before .if1 .left) (c .before .before .before .before .if2 .left) h (rw (c .before .larger .ensures) at (c .if3 .taken)),
 )
 
 mul-t22 : tie.Need-mul-t22
@@ -68,8 +68,8 @@ add-t12 c = search needs
 returns-4 : tie.Need-returns-4
 returns-4 c = (
   (marks-left-start _ _ _ (c .before .before .before .before .before .before .before .before .before .before .pre .1 .0) (c .before .before .before .before .before .before .before .before .before .before .pre .1 .1) (c .before .before .before .before .before .before .before .if1 .left) (c .before .before .before .before .before .if2 .left), omega (arith, c .before .if3 .left), refl, c .before .before .before .before .before .before .before .if1 .left),
-  λ used base nodes s l h. rw (c .before .before .larger .ensures)
-      (two-step used base nodes _ _ _ (c .before .before .before .before .before .before .before .before .before .before .pre .1 .0) (c .before .before .before .before .before .before .before .before .before .before .pre .1 .1) l _ _ s (c .before .before .before .before .before .before .before .if1 .left) (c .before .before .before .before .before .if2 .left) h (c .before .before .before .before .before .before .before .before .before .before .pre .0 .0) (c .before .before .before .before .before .before .before .before .before .before .pre .0 .1)
+  λ used nodes s l h. rw (c .before .before .larger .ensures)
+      (two-step used nodes _ _ _ (c .before .before .before .before .before .before .before .before .before .before .pre .1 .0) (c .before .before .before .before .before .before .before .before .before .before .pre .1 .1) l _ _ s (c .before .before .before .before .before .before .before .if1 .left) (c .before .before .before .before .before .if2 .left) h (c .before .before .before .before .before .before .before .before .before .before .pre .0 .0) (c .before .before .before .before .before .before .before .before .before .before .pre .0 .1)
       (rw (c .before .before .larger .ensures) at (c .before .if3 .left))),
 )
 
