@@ -10,6 +10,10 @@ unfoldable pub roomStop : ℕ → ℕ → ℕ → Stop
 roomStop needed size used =
     firstOf (stopIf (ltb 65536 size) 10 0 ∷ stopIf (ltb size used) 10 0 ∷ stopIf (ltb size (used + needed)) 10 0 ∷ [])
 
+-- 10: an output below 448 bytes, where a condition is written
+abbrev pub outputStop : ℕ → Stop
+outputStop output = stopIf (ltb output 448) 10 0
+
 -- 8 and 3 over cells, words counted through, the first one having this place
 unfoldable pub cellsStop : ℕ → ℕ → List ℕ → Stop
 cellsStop used place [] = never

@@ -3,7 +3,7 @@ ghost use mathlib.Core.Path.{_≡_};
 ghost use Prim.Native.Nat.{_+_, _<_, _^_};
 ghost use lib.ListN.{length};
 ghost use Rattle.refusals.specs.Stop.{checkedOf};
-ghost use Rattle.checks.specs.Check.{roomStop, cellsStop};
+ghost use Rattle.checks.specs.Check.{roomStop, outputStop, cellsStop};
 use refusals::Checked;
 use refusals::Refusal;
 
@@ -18,6 +18,16 @@ pub fn check_room(size: usize, used: usize, needed: usize) -> Checked
         return Checked::Refused(Refusal::NoRoom(0));
     }
     if size - used < needed {
+        return Checked::Refused(Refusal::NoRoom(0));
+    }
+    Checked::Sound
+}
+
+// What is wrong with an output of this size, where a condition is to be written.
+pub fn check_output(size: usize) -> Checked
+    ensures { λ r. ⌜ checkedOf r ≡ outputStop size ⌝ }
+{
+    if size < 448 {
         return Checked::Refused(Refusal::NoRoom(0));
     }
     Checked::Sound

@@ -1,5 +1,5 @@
 -- Where a call stops, and which of several checks stops it first ("Order"). Assumes nothing: these are definitions.
-use Prim.Native.Nat.{ℕ}
+use Prim.Native.Nat.{ℕ, _+_}
 use mathlib.Core.Bool.{Bool, true, false}
 use mathlib.Core.List.{List, [], _∷_}
 use Rattle.refusals.specs.Told.{told}
@@ -34,3 +34,8 @@ orElse (stop number place) later = stop number place
 abbrev pub firstOf : List Stop → Stop
 firstOf [] = never
 firstOf (s ∷ ss) = orElse s (firstOf ss)
+
+-- a stop in a part that begins at an offset: its place counts on from there
+abbrev pub countedFrom : ℕ → Stop → Stop
+countedFrom from never = never
+countedFrom from (stop number place) = stop number (from + place)

@@ -1,6 +1,8 @@
 // Refusals: one named case for each number of document 01, each with its place.
 ghost use mathlib.Core.Path.{_≡_};
+ghost use Prim.Native.Nat.{_+_, _<_, _^_};
 ghost use Rattle.refusals.specs.Told.{told};
+ghost use Rattle.refusals.specs.Stop.{stopOf, countedFrom};
 
 // Named after what was wrong; the comment gives document 01's number.
 pub enum Refusal {
@@ -86,6 +88,31 @@ impl Refusal {
             Refusal::NotValid(p) => p,
             Refusal::KeyTwice(p) => p,
             Refusal::NotPrintable(p) => p,
+        }
+    }
+
+    // The same refusal in a part that begins at an offset: its place counts on from there.
+    pub fn counted_from(self, from: usize) -> Refusal
+        requires { ⌜ from + told self .place < 2 ^ 64 ⌝ }
+        ensures { λ r. ⌜ stopOf r ≡ countedFrom from (stopOf self) ⌝ }
+    {
+        let p = from + self.place();
+        match self {
+            Refusal::NotACondition(_) => Refusal::NotACondition(p),
+            Refusal::TooLarge(_) => Refusal::TooLarge(p),
+            Refusal::TextOutside(_) => Refusal::TextOutside(p),
+            Refusal::NoSuchColumn(_) => Refusal::NoSuchColumn(p),
+            Refusal::Overflow(_) => Refusal::Overflow(p),
+            Refusal::ShiftAmount(_) => Refusal::ShiftAmount(p),
+            Refusal::TooLong(_) => Refusal::TooLong(p),
+            Refusal::Malformed(_) => Refusal::Malformed(p),
+            Refusal::OutputShort(_) => Refusal::OutputShort(p),
+            Refusal::NoRoom(_) => Refusal::NoRoom(p),
+            Refusal::KeyTaken(_) => Refusal::KeyTaken(p),
+            Refusal::KeyRepeated(_) => Refusal::KeyRepeated(p),
+            Refusal::NotValid(_) => Refusal::NotValid(p),
+            Refusal::KeyTwice(_) => Refusal::KeyTwice(p),
+            Refusal::NotPrintable(_) => Refusal::NotPrintable(p),
         }
     }
 }

@@ -1,0 +1,5 @@
+-- What the proofs of several functions use, here and above.
+pub mod Writing
+pub mod Leaves
+pub mod Parsing
+pub mod Lengths
