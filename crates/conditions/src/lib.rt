@@ -20,7 +20,7 @@ pub enum Node {
     Two(u64, usize),
 }
 
-fn node_of(word: u64) -> Node
+pub fn node_of(word: u64) -> Node
     ensures { λ r. ⌜ r ≡ nodeOf word ⌝ }
 {
     let kind = word / 0x100_0000_0000_0000;

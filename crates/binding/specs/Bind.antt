@@ -1,0 +1,83 @@
+-- The call `bind`: column names give way to column numbers (document 01, "Binding replaces names by numbers"). Assumes nothing: these are definitions.
+use Prim.Native.Nat.{ℕ, _+_, _*_, _^_, _/_, _%_}
+use mathlib.Core.Bool.{Bool, true, false, not, cond}
+use mathlib.Core.List.{List, [], _∷_}
+use lib.ListN.{length, getD}
+use lib.Dec.{leb, eqb}
+use Rattle.refusals.specs.Stop.{Stop, never, stop, stopIf, orElse, firstOf}
+use Rattle.slices.specs.Splice.{piece}
+use Rattle.slices.specs.Bytes.{both, sameBytes}
+use Rattle.writing.specs.Writing.{WrittenIs}
+use Rattle.writing.specs.declared.Written.{Written}
+use Rattle.cells.specs.Cell.{kindOf, startOf, lengthOf}
+use Rattle.values.specs.Value.{Value, null}
+use Rattle.columns.specs.Column.{columnsStop, Where, nowhere, found, firstFrom, columnNamed}
+use Rattle.checks.specs.Check.{roomStop, outputStop}
+use Rattle.nodes.specs.declared.Allowed.the-variants.{Named}
+use Rattle.conditions.specs.Ast.{Tree, leaf, unary, binary, Atom, literal, column, named, mapTree}
+use Rattle.forms.specs.Form.{Parsed, tree, refusal, parsed, formStop}
+use Rattle.postfix.specs.Postfix.{bytesOf, width}
+
+-- the column that a name's word means
+abbrev pub columnOf : List ℕ → List ℕ → ℕ → Where
+columnOf stored columns w = columnNamed stored columns (piece (startOf w) (lengthOf w) stored)
+
+-- a column by its number (kind 4) for one by its name
+abbrev pub numbered : ℕ → Where → ℕ
+numbered w (found number) = 4 * 2 ^ 56 + number
+numbered w nowhere = w
+
+-- a leaf bound: a name (kind 3) gives way to the number of the first column of that name, any other leaf stays
+unfoldable pub bindLeaf : List ℕ → List ℕ → ℕ → ℕ
+bindLeaf stored columns w = cond (eqb (kindOf w) 3) (numbered w (columnOf stored columns w)) w
+
+abbrev pub isNowhere : Where → Bool
+isNowhere nowhere = true
+isNowhere (found number) = false
+
+-- 4 over the names in byte order, at the node's offset; the tree's bytes begin at this offset
+unfoldable pub namesStop : List ℕ → List ℕ → ℕ → Tree ℕ → Stop
+namesStop stored columns at (leaf w) = stopIf (both (eqb (kindOf w) 3) (isNowhere (columnOf stored columns w))) 4 at
+namesStop stored columns at (unary op a) = namesStop stored columns at a
+namesStop stored columns at (binary op a b) = orElse (namesStop stored columns at a) (namesStop stored columns (at + width a) b)
+
+abbrev pub ofTree : (Tree ℕ → Stop) → Parsed → Stop
+ofTree f (tree t) = f t
+ofTree f (refusal number place) = never
+
+-- two words a column, 1 to 32 columns
+unfoldable pub isTableLength : ℕ → Bool
+isTableLength n = both (eqb (n % 2) 0) (both (leb 1 (n / 2)) (leb (n / 2) 32))
+
+-- all that stops `bind`, in document 01's order
+abbrev pub bindStop : List ℕ → List ℕ → List ℕ → ℕ → ℕ → ℕ → Stop
+bindStop b columns stored size used output =
+    firstOf
+    (roomStop 32768 size used
+    ∷ outputStop output
+    ∷ stopIf (not (isTableLength (length columns))) 8 0
+    ∷ columnsStop used 0 columns
+    ∷ formStop (parsed Named used b)
+    ∷ ofTree (namesStop stored columns 0) (parsed Named used b)
+    ∷ [])
+
+-- the bound condition's bytes
+abbrev pub boundBytes : List ℕ → List ℕ → Parsed → List ℕ
+boundBytes stored columns (tree t) = bytesOf (mapTree (bindLeaf stored columns) t)
+boundBytes stored columns (refusal number place) = []
+
+-- what `bind` answers and writes
+abbrev pub BindIs : List ℕ → List ℕ → List ℕ → ℕ → ℕ → List ℕ → List ℕ → Written → Type 0
+BindIs b columns stored size used before after answer =
+    WrittenIs before after answer (bindStop b columns stored size used (length before)) (length (boundBytes stored columns (parsed Named used b)))
+    (boundBytes stored columns (parsed Named used b))
+
+-- what a column's name means on a row: the cell of the first column of that name
+abbrev pub valueAt : List Value → Where → Value
+valueAt row (found number) = getD row number null
+valueAt row nowhere = null
+
+unfoldable pub byName : List (List ℕ) → List Value → Atom → Atom
+byName names row (literal v) = literal v
+byName names row (column c) = column c
+byName names row (named name) = literal (valueAt row (firstFrom (λ other. sameBytes other name) 0 names))

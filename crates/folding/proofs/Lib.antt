@@ -1,0 +1,8 @@
+-- What the proofs of several functions use, here and above.
+pub mod Ways
+pub mod Results
+pub mod Literals
+pub mod Growing
+pub mod Alike
+pub mod Columns
+pub mod Places

@@ -1,0 +1,1 @@
+// Folding: operators over literals give way to their values.
