@@ -1,35 +1,47 @@
 -- The body of a leaf by its kind. Assumes nothing.
-use mathlib.Core.Path.{_≡_, refl, sym, ap, _∙_}
+use mathlib.Core.Path.{_≡_, refl}
 use mathlib.Core.Bool.{Bool, true, false, cond}
-use mathlib.Core.List.{List, [], _∷_, _++_}
-use Prim.Native.Nat.{ℕ, _+_, _≤_, _<_}
+use mathlib.Core.List.{List, [], _++_}
+use Prim.Native.Nat.{ℕ, _+_}
 use native.Mathlib.Omega.{arith}
 use lib.ListN.{length, length-append}
 use lib.Dec.{eqb}
-use borrow.Author.Tests.{eq-eqb, ne-eqb}
+use borrow.Author.Tests.{ne-eqb}
 use Rattle.cells.specs.Cell.{kindOf, bodyOf, startOf, lengthOf}
 use Rattle.nodes.specs.Kind.{bodyOf as long}
 use Rattle.postfix.specs.Postfix.{little, bodyBytes}
+use Rattle.postfix.proofs.Numbers.{Small, small-nil, small-append, little-small}
 use Rattle.postfix.proofs.Writing.{length-little}
 
 -- a text's or a name's start and length take 6 bytes
 length-text : (x y : ℕ) → length (little 4 x ++ little 2 y) ≡ 6
 length-text x y = omega (arith, length-append (little 4 x) (little 2 y), length-little 4 x, length-little 2 y)
 
+-- what holds of each kind's body and its length holds of any leaf's
+body-by : (P : List ℕ → ℕ → Type 0) (w : ℕ) → P (little 4 (bodyOf w)) 4 → P (little 4 (startOf w) ++ little 2 (lengthOf w)) 6 → P (little 1 (bodyOf w)) 1 → P [] 0
+    → P (bodyBytes w) (long (kindOf w))
+unfolding bodyBytes long
+body-by P w int text column none = by (eqb (kindOf w) 1) (eqb (kindOf w) 2) (eqb (kindOf w) 3) (eqb (kindOf w) 4)
+  where
+    words : List ℕ
+    words = little 4 (startOf w) ++ little 2 (lengthOf w)
+
+    by : (p q r s : Bool) → P (cond p (little 4 (bodyOf w)) (cond q words (cond r words (cond s (little 1 (bodyOf w)) [])))) (cond p 4 (cond q 6 (cond r 6 (cond s 1 0))))
+    by true q r s = int
+    by false true r s = text
+    by false false true s = text
+    by false false false true = column
+    by false false false false = none
+
 -- a body is as long as its kind says
 pub length-body : (w : ℕ) → length (bodyBytes w) ≡ long (kindOf w)
-unfolding bodyBytes long
-length-body w = by (eqb (kindOf w) 1) (eqb (kindOf w) 2) (eqb (kindOf w) 3) (eqb (kindOf w) 4)
-  where
-    text : List ℕ
-    text = little 4 (startOf w) ++ little 2 (lengthOf w)
+length-body w = body-by (λ l n. length l ≡ n) w (length-little 4 (bodyOf w)) (length-text (startOf w) (lengthOf w)) (length-little 1 (bodyOf w)) refl
 
-    by : (p q r s : Bool) → length (cond p (little 4 (bodyOf w)) (cond q text (cond r text (cond s (little 1 (bodyOf w)) [])))) ≡ cond p 4 (cond q 6 (cond r 6 (cond s 1 0)))
-    by true q r s = length-little 4 (bodyOf w)
-    by false true r s = length-text (startOf w) (lengthOf w)
-    by false false true s = length-text (startOf w) (lengthOf w)
-    by false false false true = length-little 1 (bodyOf w)
-    by false false false false = refl
+-- and it is bytes
+pub small-body : (w : ℕ) → Small (bodyBytes w)
+small-body w =
+    body-by (λ l n. Small l) w (little-small 4 (bodyOf w))
+    (small-append (little 4 (startOf w)) (little 2 (lengthOf w)) (little-small 4 (startOf w)) (little-small 2 (lengthOf w))) (little-small 1 (bodyOf w)) small-nil
 
 module _ (w : ℕ) where
   -- an Int's 4 bytes

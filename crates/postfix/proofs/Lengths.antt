@@ -1,15 +1,15 @@
 -- How long a condition can be, and how far on a refusal can stand: 64 nodes of at most 7 bytes. Assumes nothing.
-use mathlib.Core.Path.{_≡_, sym}
+use mathlib.Core.Path.{_≡_}
 use mathlib.Core.Bool.{Bool, true, false, cond}
 use mathlib.Core.List.{List, [], _∷_}
-use Prim.Native.Nat.{ℕ, suc, _+_, _*_, _≤_, _<_}
+use Prim.Native.Nat.{ℕ, _+_, _*_, _≤_}
 use native.Mathlib.Omega.{arith}
 use lib.ListN.{length, getD}
 use lib.Dec.{eqb}
 use Rattle.conditions.specs.Ast.{Tree}
 use Rattle.nodes.specs.Kind.{bodyOf}
 use Rattle.nodes.specs.declared.Allowed.{Allowed}
-use Rattle.forms.specs.Form.{Parsed, tree, refusal, Move, go, finish, parsed}
+use Rattle.forms.specs.Form.{tree, refusal, go, finish, parsed}
 use Rattle.postfix.proofs.Parsing.{node, parse-all, node-went}
 
 -- a node has at most 7 bytes
@@ -25,6 +25,7 @@ body-small k = by (eqb k 1) (eqb k 2) (eqb k 3) (eqb k 4)
     by false false false false = omega arith
 
 module _ (form : Allowed) (used : ℕ) (b : List ℕ) where
+  -- a node that goes on ends at most 7 bytes on
   node-short : (at : ℕ) (s s′ : List (Tree ℕ)) (next : ℕ) → node form used b at s ≡ go s′ next → next ≤ at + 7
   node-short at s s′ next e = omega (arith, node-went form used b at (getD b at 0) s s′ next e .after, body-small (getD b at 0))
 
@@ -39,6 +40,7 @@ module _ (form : Allowed) (used : ℕ) (b : List ℕ) where
         (λ f at s s′ next r h q ih t e. omega (arith, ih t e, node-short at s s′ next q)) 64 0 [] t e,
   )
 
+  -- a refusal at the end of the bytes stands there
   finish-place : (s : List (Tree ℕ)) (at n p : ℕ) → finish s at ≡ refusal n p → p ≡ at
   finish-place [] at n p e = cc
   finish-place (t ∷ []) at n p e = absurd (let z : _≡_ {A = ℕ} 0 1 = cc in omega arith)

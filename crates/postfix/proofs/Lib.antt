@@ -3,3 +3,7 @@ pub mod Writing
 pub mod Leaves
 pub mod Parsing
 pub mod Lengths
+pub mod Numbers
+pub mod Readable
+pub mod Reading
+pub mod Joined

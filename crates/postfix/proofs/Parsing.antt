@@ -1,5 +1,5 @@
 -- Induction over `parse`, and what a node says that goes on. Assumes nothing.
-use mathlib.Core.Path.{_≡_, refl, sym, ap, _∙_}
+use mathlib.Core.Path.{_≡_, refl}
 use mathlib.Core.Bool.{Bool, true, false, cond}
 use mathlib.Core.List.{List, [], _∷_}
 use Prim.Native.Nat.{ℕ, zero, suc, _+_, _≤_, _<_}
@@ -10,7 +10,7 @@ use borrow.Author.Tests.{lt-ltb, le-ltb, ltb-true, ltb-false, leb-true}
 use Rattle.conditions.specs.Ast.{Tree, leaf, unary, binary, height}
 use Rattle.nodes.specs.Kind.{known, bodyOf, leafWord, textFits}
 use Rattle.nodes.specs.declared.Allowed.{Allowed}
-use Rattle.forms.specs.Form.{Parsed, tree, refusal, Move, go, stop, pushed, onOne, onTwo, nodeAt, finish, follow, parse}
+use Rattle.forms.specs.Form.{Parsed, refusal, Move, go, stop, pushed, onOne, onTwo, nodeAt, finish, follow, parse}
 
 module _ (form : Allowed) (used : ℕ) (b : List ℕ) where
   -- the node that stands at an offset
@@ -82,6 +82,7 @@ pushed-went t s s′ n next e = by (leb (height t) 16) refl e
 
 module _ (form : Allowed) (used : ℕ) (b : List ℕ) (at k : ℕ) (s s′ : List (Tree ℕ)) (next : ℕ) where
   module _ (K : known form k ≡ true) (I : at + 1 + bodyOf k ≤ length b) where
+    -- an operator over one operand
     one-went : 16 ≤ k → k < 32 → onOne k s (at + 1 + bodyOf k) ≡ go s′ next → Went form used b at k s s′ next
     one-went l u e = by s refl e
       where
@@ -91,6 +92,7 @@ module _ (form : Allowed) (used : ℕ) (b : List ℕ) (at k : ℕ) (s s′ : Lis
             let p = pushed-went (unary k a) r s′ (at + 1 + bodyOf k) next e in
             record { kind = K; inside = I; after = p .2; became = one a r l u q (p .1) (p .0) }
 
+    -- an operator over two
     two-went : 32 ≤ k → onTwo k s (at + 1 + bodyOf k) ≡ go s′ next → Went form used b at k s s′ next
     two-went l e = by s refl e
       where
@@ -101,10 +103,12 @@ module _ (form : Allowed) (used : ℕ) (b : List ℕ) (at k : ℕ) (s s′ : Lis
             let p = pushed-went (binary k a c) r s′ (at + 1 + bodyOf k) next e in
             record { kind = K; inside = I; after = p .2; became = two a c r l q (p .1) (p .0) }
 
+    -- a leaf
     leaf-went : k < 16 → (x : Bool) → textFits used b at k ≡ x → cond x (go (leaf (leafWord b at k) ∷ s) (at + 1 + bodyOf k)) (stop 3) ≡ go s′ next → Went form used b at k s s′ next
     leaf-went l true q e = record { kind = K; inside = I; after = cc; became = put l q cc }
     leaf-went l false q e = absurd (let z : _≡_ {A = ℕ} 0 1 = cc in omega arith)
 
+  -- what a node says that goes on
   pub node-went : nodeAt form used b at k s ≡ go s′ next → Went form used b at k s s′ next
   unfolding nodeAt
   node-went e = by (known form k) refl (leb (at + 1 + bodyOf k) (length b)) refl (ltb k 16) refl (ltb k 32) refl e

@@ -1,6 +1,6 @@
 -- A number written byte by byte, the low one first: the loop's invariant and its turns. Assumes nothing.
 use mathlib.Core.Path.{_≡_, refl, sym, ap, _∙_}
-use mathlib.Core.List.{List, [], _∷_}
+use mathlib.Core.List.{List, _∷_}
 use Prim.Native.Nat.{ℕ, zero, suc, _+_, _-_, _/_, _%_, _≤_, _<_}
 use native.Mathlib.Omega.{arith}
 use native.Mathlib.Numerals.{add-one}
@@ -27,13 +27,16 @@ pub record Writing (n x : ℕ) (d : List ℕ) (at : ℕ) (out : List ℕ) (rest 
   pub copying : Copying (little n x) d at out i
   pub left : drop i (little n x) ≡ little (n - i) rest
 
+-- nothing is written yet
 pub writing-start : (n x : ℕ) (d : List ℕ) (at : ℕ) → Writing n x d at d x 0
 writing-start n x d at = record { copying = copying-start _ _ _; left = rw sub-zero }
 
 module _ {n x : ℕ} {d : List ℕ} {at : ℕ} {out : List ℕ} {rest i : ℕ} (w : Writing n x d at out rest i) (room : at + n ≤ length d) where
+  -- there is room for the number's bytes
   full : at + length (little n x) ≤ length d
   full = omega (arith, length-little n x)
 
+  -- one byte more
   pub writing-turn : i < n → Writing n x d at (set out (at + i) (rest % 256)) (rest / 256) (i + 1)
   writing-turn h =
       let e : getD (little n x) i 0 ∷ drop (suc i) (little n x) ≡ rest % 256 ∷ little (n - suc i) (rest / 256) =
@@ -43,6 +46,7 @@ module _ {n x : ℕ} {d : List ℕ} {at : ℕ} {out : List ℕ} {rest i : ℕ} (
         left = rw add-one (cc);
       }
 
+  -- all bytes are written
   pub writing-end : n ≤ i → Wrote d at (little n x) (at + n) out
   writing-end h =
       let v : Wrote d at (little n x) (at + length (little n x)) out = copying-end (w .copying) full (omega (arith, length-little n x)) in

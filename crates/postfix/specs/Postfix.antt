@@ -1,14 +1,11 @@
 -- The postfix bytes of a tree whose leaves stand by their words (document 01, "Condition"). Assumes nothing: these are definitions.
-use Prim.Native.Nat.{ℕ, zero, suc, _+_, _*_, _^_, _/_, _%_, _<_}
-use mathlib.Core.Path.{_≡_}
-use mathlib.Core.Bool.{true, cond}
+use Prim.Native.Nat.{ℕ, zero, suc, _/_, _%_}
+use mathlib.Core.Bool.{cond}
 use mathlib.Core.List.{List, [], _∷_, _++_}
 use lib.ListN.{length}
 use lib.Dec.{eqb}
 use Rattle.cells.specs.Cell.{kindOf, bodyOf, startOf, lengthOf}
 use Rattle.conditions.specs.Ast.{Tree, leaf, unary, binary}
-use Rattle.nodes.specs.Kind.{known, textFits}
-use Rattle.nodes.specs.declared.Allowed.{Allowed}
 
 -- a number in so many bytes, the low one first
 unfoldable pub little : ℕ → ℕ → List ℕ
