@@ -13,6 +13,13 @@ pub struct Field {
     pub next: usize,
 }
 
+// A text buffer of a case: its length, its mark, its stored bytes.
+pub struct Text {
+    pub size: usize,
+    pub used: usize,
+    pub stored: Field,
+}
+
 // The numbers of an answer.
 pub struct Expected {
     pub number: u64,
@@ -84,6 +91,27 @@ pub fn bytes(case: &[u8], at: usize) -> Field
     }
 }
 
+// The bytes of a slice.
+pub fn part(case: &[u8], field: Field) -> &[u8]
+    requires { ⌜ field .start + field .count ≤ length (now case) ⌝ }
+{
+    let start = field.start;
+    let end = start + field.count;
+    &case[start..end]
+}
+
+// The text buffer at a place.
+pub fn lent(case: &[u8], at: usize) -> Text
+    requires { ⌜ at ≤ length (now case) ⌝ }
+    ensures { λ r. ⌜ (r .stored .start + r .stored .count ≤ length (now (case .entry))) × (r .stored .next ≤ length (now (case .entry))) ⌝ }
+{
+    Text {
+        size: four(case, at) as usize,
+        used: eight(case, at + 4) as usize,
+        stored: bytes(case, after(case, at, 12)),
+    }
+}
+
 // The slice of words at a place, put at the start of words; more than it holds are passed over.
 pub fn words(case: &[u8], at: usize, words: &mut [u64]) -> Field
     requires { ⌜ at ≤ length (now case) ⌝ }
@@ -125,17 +153,48 @@ pub fn answer(case: &[u8], at: usize) -> Expected
     }
 }
 
-// The text as lent: the stored bytes, and rubbish above them.
+// Whether these are the numbers expected.
+pub fn is_answer(e: Expected, number: u64, place: usize, value: usize, used: usize) -> bool {
+    number == e.number
+        && place as u64 == e.place
+        && value as u64 == e.value
+        && used as u64 == e.used
+}
+
+// The byte of rubbish at a place.
+fn rubbish_at(at: usize, rubbish: u64) -> u8 {
+    ((at as u64 % 1000 * 7 + rubbish % 1000) % 256) as u8
+}
+
+// The text as lent: the stored bytes, and rubbish above them. An output as lent has no stored bytes.
 pub fn lend(text: &mut [u8], stored: &[u8], rubbish: u64)
     requires { ⌜ length (now stored) ≤ length (now text) ⌝ }
     ensures { λ _. ⌜ length (now (text .exit)) ≡ length (now (text .entry)) ⌝ }
 {
     let mut i: usize = 0;
     while i < text.len() {
-        text[i] = ((i as u64 % 1000 * 7 + rubbish % 1000) % 256) as u8;
+        text[i] = rubbish_at(i, rubbish);
         i += 1;
     }
     slices::copy_bytes(stored, text, 0);
+}
+
+// Whether an output holds the result at its start, and the rubbish that was lent after it.
+pub fn output_is(out: &[u8], result: &[u8], rubbish: u64) -> bool {
+    let mut i = result.len();
+    if out.len() < i {
+        return false;
+    }
+    if !slices::equal_bytes(&out[..i], result) {
+        return false;
+    }
+    while i < out.len() {
+        if out[i] != rubbish_at(i, rubbish) {
+            return false;
+        }
+        i += 1;
+    }
+    true
 }
 
 // Whether a word is the text expected, computed above the mark.

@@ -59,31 +59,24 @@ fn replays(case: &[u8], text: &mut [u8], rubbish: u64) -> bool
         return false;
     }
     let condition = replay::bytes(case, 4);
-    let from = condition.start;
-    let to = from + condition.count;
     let mut space = [0u64; 64];
     let row = replay::words(case, condition.next, &mut space);
     let cells = row.count;
-    let size = replay::four(case, row.next) as usize;
+    let lent = replay::lent(case, row.next);
+    let size = lent.size;
     if text.len() < size {
         return false;
     }
-    let used = replay::eight(case, row.next + 4) as usize;
-    let stored = replay::bytes(case, replay::after(case, row.next, 12));
-    let start = stored.start;
-    let end = start + stored.count;
-    let e = replay::answer(case, stored.next);
-    let content = replay::bytes(case, replay::after(case, stored.next, 36));
-    let first = content.start;
-    let last = first + content.count;
+    let e = replay::answer(case, lent.stored.next);
+    let content = replay::bytes(case, replay::after(case, lent.stored.next, 36));
     called(
-        &case[from..to],
+        replay::part(case, condition),
         &space[..cells],
-        &case[start..end],
-        &case[first..last],
+        replay::part(case, lent.stored),
+        replay::part(case, content),
         e,
         &mut text[..size],
-        used,
+        lent.used,
         rubbish,
     )
 }

@@ -1,4 +1,4 @@
--- `replay_operators::lend` is safe and keeps the length. Assumes nothing.
+-- `replay::lend` is safe and keeps the length. Assumes nothing.
 use mathlib.Core.Path.{_≡_, refl, _∙_}
 use Prim.Native.Nat.{_≤_, _-_}
 use lib.ListN.{length, length-set}
@@ -16,14 +16,8 @@ abbrev μ-loop : tie.MeasureT-loop
 loop-holds : tie.Need-loop-holds Inv-loop μ-loop
 loop-holds c = (search needs, refl)
 
-mul-text : tie.Need-mul-text Inv-loop μ-loop
-mul-text c = search needs
-
-add-text : tie.Need-add-text Inv-loop μ-loop
-add-text c = search needs
-
-cast-text : tie.Need-cast-text Inv-loop μ-loop
-cast-text c = search needs
+rubbish-at-requires : tie.Need-rubbish-at-requires Inv-loop μ-loop
+rubbish-at-requires c κs = search needs
 
 slice-write-text : tie.Need-slice-write-text Inv-loop μ-loop
 slice-write-text c = search needs
@@ -53,9 +47,7 @@ lend-spec =
     Inv-loop
     μ-loop
     loop-holds
-    mul-text
-    add-text
-    cast-text
+    rubbish-at-requires
     slice-write-text
     add-i
     loop-less

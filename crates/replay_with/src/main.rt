@@ -1,0 +1,109 @@
+// Replays the recorded cases of `with` (docs/CASES.md, call 21) from standard input.
+ghost use mathlib.Core.Path.{_≡_};
+ghost use Prim.Native.Nat.{_≤_};
+ghost use lib.ListN.{length};
+use replay::Expected;
+use writing::Written;
+
+// Whether an answer is the one expected, with the mark where it was.
+fn agrees(answer: Written, e: Expected, used: usize) -> bool {
+    match answer {
+        Written::Count(n) => replay::is_answer(e, 0, 0, n, used),
+        Written::Refused(r) => replay::is_answer(e, r.number(), r.place(), 0, used),
+    }
+}
+
+// Whether the call gives the answer and the output expected, with the text above the mark and the output filled with this rubbish.
+fn called(
+    old: &[u8],
+    new: &[u8],
+    stored: &[u8],
+    result: &[u8],
+    e: Expected,
+    text: &mut [u8],
+    used: usize,
+    out: &mut [u8],
+    rubbish: u64,
+) -> bool
+    ensures { λ _. ⌜ (length (now (text .exit)) ≡ length (now (text .entry))) × (length (now (out .exit)) ≡ length (now (out .entry))) ⌝ }
+{
+    if text.len() < stored.len() {
+        return false;
+    }
+    replay::lend(text, stored, rubbish);
+    replay::lend(out, &stored[..0], rubbish);
+    let answer = conjunction::with(old, new, text, used, out);
+    agrees(answer, e, used) && replay::output_is(out, result, rubbish)
+}
+
+// One case.
+fn replays(case: &[u8], text: &mut [u8], out: &mut [u8], rubbish: u64) -> bool
+    ensures { λ _. ⌜ (length (now (text .exit)) ≡ length (now (text .entry))) × (length (now (out .exit)) ≡ length (now (out .entry))) ⌝ }
+{
+    if case.len() < 4 {
+        return false;
+    }
+    if case[0] != 21 {
+        return false;
+    }
+    let old = replay::bytes(case, 4);
+    let new = replay::bytes(case, old.next);
+    let lent = replay::lent(case, new.next);
+    let size = lent.size;
+    let room = replay::four(case, lent.stored.next) as usize;
+    let at = replay::after(case, lent.stored.next, 4);
+    let e = replay::answer(case, at);
+    let result = replay::bytes(case, replay::after(case, at, 32));
+    if text.len() < size {
+        return false;
+    }
+    if out.len() < room {
+        return false;
+    }
+    called(
+        replay::part(case, old),
+        replay::part(case, new),
+        replay::part(case, lent.stored),
+        replay::part(case, result),
+        e,
+        &mut text[..size],
+        lent.used,
+        &mut out[..room],
+        rubbish,
+    )
+}
+
+// 1 where the case of this number differs under either rubbish, which is told, else 0.
+fn difference(case: &[u8], text: &mut [u8], out: &mut [u8], number: u64) -> u64
+    ensures { λ r. ⌜ (r ≤ 1) × (length (now (text .exit)) ≡ length (now (text .entry))) × (length (now (out .exit)) ≡ length (now (out .entry))) ⌝ }
+{
+    let one = replays(case, text, out, number % 1000);
+    let two = replays(case, text, out, 77 + number % 1000);
+    if one {
+        if two {
+            return 0;
+        }
+    }
+    replay::tell(number);
+    1
+}
+
+fn main() {
+    let mut space = [0u8; 262144];
+    let buffer: &mut [u8] = &mut space;
+    let mut room = [0u8; 65537];
+    let text: &mut [u8] = &mut room;
+    let mut place = [0u8; 1100];
+    let out: &mut [u8] = &mut place;
+    let mut cases: u64 = 0;
+    let mut differ: u64 = 0;
+    while cases < 1000000 {
+        let size = replay::next_case(buffer);
+        if size == 0 {
+            break;
+        }
+        differ += difference(&buffer[..size], text, out, cases);
+        cases += 1;
+    }
+    replay::report(cases, differ);
+}
