@@ -14,7 +14,8 @@ use Rattle.operators.specs.declared.Rules.{Rules}
 use Rattle.conditions.specs.Ast.{Tree, leaf, unary, binary, joins}
 use Rattle.folding.specs.Fold.{folded, fold}
 use Rattle.folding.proofs.Ways.{literalAt, Folds, same, kept-one, kept-two, value-one, value-two, fold-folds}
-use Rattle.folding.proofs.Literals.{Literal, literal-one, literal-two, literal-kind}
+use Rattle.folding.specs.Walk.{Literal}
+use Rattle.folding.proofs.Literals.{literal-one, literal-two, literal-kind}
 use Rattle.folding.proofs.Growing.{folds-grown}
 
 -- the words of the leaves that are columns, by name (3) or by number (4), left to right

@@ -14,15 +14,10 @@ use Rattle.operators.specs.declared.Rules.{Rules}
 use Rattle.conditions.specs.Ast.{Tree, leaf, unary, binary, size, height, joins}
 use Rattle.conditions.proofs.Giving.{well-more}
 use Rattle.forms.specs.Held.{LeafHeld}
+use Rattle.folding.specs.Walk.{AllHeld, Literal}
 use Rattle.folding.specs.Fold.{folded, appended, fold}
 use Rattle.folding.proofs.Ways.{literalAt, Folds, same, kept-one, kept-two, value-one, value-two, fold-folds}
-use Rattle.folding.proofs.Literals.{Literal, literal-one, literal-two, literal-kind, literal-well, literal-grows, held-literal}
-
--- every leaf of the tree is held below the mark
-unfoldable pub AllHeld : ℕ → Tree ℕ → Type 0
-AllHeld used (leaf w) = LeafHeld used w
-AllHeld used (unary op a) = AllHeld used a
-AllHeld used (binary op a b) = AllHeld used a × AllHeld used b
+use Rattle.folding.proofs.Literals.{literal-one, literal-two, literal-kind, literal-well, literal-grows, held-literal}
 
 -- the text with something after it
 pub record Extends (s s′ : List ℕ) : Type 0 where

@@ -6,3 +6,5 @@ pub mod Growing
 pub mod Alike
 pub mod Columns
 pub mod Places
+pub mod Standing
+pub mod Walking

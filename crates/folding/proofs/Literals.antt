@@ -20,15 +20,9 @@ use Rattle.operators.proofs.Holding.{Holds, value-int32, holds-unary, holds-bin
 use Rattle.conditions.specs.Ast.{literal}
 use Rattle.conditions.specs.Table.{leafOf}
 use Rattle.forms.specs.Held.{LeafHeld}
+use Rattle.folding.specs.Walk.{Literal}
 use Rattle.folding.specs.Fold.{appended}
 use Rattle.folding.proofs.Results.{Result, result-unary, result-binary}
-
--- a value that a literal can stand for: an Int of 32 bits, a text no longer than so much, no Binary
-abbrev pub Literal : ℕ → Value → Type 0
-Literal most null = Unit {0}
-Literal most (int z) = SFits w32 z
-Literal most (str b) = length b ≤ most
-Literal most binary = ⊥
 
 -- ---- what operators give is such a value
 

@@ -1,0 +1,20 @@
+-- `folding::folds` meets its contract. Assumes nothing.
+use native.Mathlib.Omega.{arith}
+use Prim.Native.Nat.{_^_, _/_}
+use borrow.Author.Tests.{lt-ltb, le-ltb}
+use mathlib.Core.Path.{sym}
+use Rattle.folding.proofs.Standing.{below-three}
+use Rattle.folding.proofs.folds.Statement.{statement}
+use Rattle.folding.proofs.folds.Tie as tie
+
+returns : tie.Need-returns
+returns c = rw (le-ltb _ _ (c .if1 .taken))
+
+returns-2 : tie.Need-returns-2
+returns-2 c = rw (lt-ltb _ _ (c .before .if1 .left), le-ltb (c .before .before .args .left / 2 ^ 56) 3 (omega (arith, c .if2 .taken)))
+
+returns-3 : tie.Need-returns-3
+returns-3 c = rw (lt-ltb _ _ (c .before .if1 .left), lt-ltb (c .before .before .args .left / 2 ^ 56) 3 (omega (arith, c .if2 .left))) (below-three (c .before .before .args .right))
+
+pub folds-spec : {M : Type 1} → statement M
+folds-spec = tie.close (tie.spec returns returns-2 returns-3)
