@@ -8,3 +8,4 @@ pub mod Columns
 pub mod Places
 pub mod Standing
 pub mod Walking
+pub mod Calling

@@ -1,2 +1,3 @@
 pub mod Fold
 pub mod Walk
+pub mod Call
