@@ -1,41 +1,81 @@
 -- What an example is: a call with its inputs, and the answer expected. Assumes nothing: these are definitions.
 use Prim.Native.Nat.{ℕ}
 use mathlib.Core.Bool.{Bool, true, false}
+use mathlib.Core.List.{List, []}
 use lib.Dec.{eqb}
-use Rattle.slices.specs.Bytes.{both, isEqual}
+use Rattle.slices.specs.Bytes.{both, isEqual, sameBytes}
 use Rattle.values.specs.Value.{Value}
 use Rattle.values.specs.Order.{order}
 use Rattle.integers.specs.Outcome.{Outcome, value}
 use Rattle.operators.specs.Operator.{unaryOf, binaryOf}
 use Rattle.operators.specs.declared.Rules.{Rules}
+use Rattle.evaluation.specs.Evaluation.{Result, gave, evaluation}
+use Rattle.postfix.specs.Postfix.{bytesOf}
+use Rattle.folding.specs.Fold.{Folding, folded}
+use Rattle.folding.specs.Call.{folding}
 
--- an operator by its kind's number, over values
+-- an operator by its kind's number, over values; a condition's bytes evaluated on a row of words; a condition's bytes folded
 pub data Call : Type 0 where
   unary : ℕ → Value → Call
   binary : ℕ → Value → Value → Call
+  evaluates : List ℕ → List ℕ → Call
+  folds : List ℕ → Call
+
+-- a value, an operator's refusal by its number, a call's refusal with its place, or the bytes that are written
+pub data Expected : Type 0 where
+  gives : Value → Expected
+  stops : ℕ → Expected
+  refuses : ℕ → ℕ → Expected
+  writes : List ℕ → Expected
 
 -- document 01's number of the example, the call, and its answer
 pub record Example : Type 0 where
   pub number : ℕ
   pub call : Call
-  pub answer : Outcome
+  pub answer : Expected
 
 -- the rules of the base
 abbrev pub base : Rules
 base = record { limit = 1024 }
 
--- what the definitions say of a call
-abbrev pub run : Call → Outcome
-run (unary op v) = unaryOf base op v
-run (binary op v w) = binaryOf base op v w
+abbrev pub ofOutcome : Outcome → Expected
+ofOutcome (value v) = gives v
+ofOutcome (Outcome.refused number) = stops number
 
--- the test that two outcomes are the same
-abbrev pub sameOutcome : Outcome → Outcome → Bool
-sameOutcome (value v) (value w) = isEqual (order v w)
-sameOutcome (value v) (Outcome.refused n) = false
-sameOutcome (Outcome.refused m) (value w) = false
-sameOutcome (Outcome.refused m) (Outcome.refused n) = eqb m n
+abbrev pub ofResult : Result → Expected
+ofResult (gave v) = gives v
+ofResult (Result.refused number place) = refuses number place
+
+abbrev pub ofFolding : Folding → Expected
+ofFolding (folded t stored) = writes (bytesOf t)
+ofFolding (Folding.refused number place) = refuses number place
+
+-- what the definitions say of a call: no text is stored, and there is just the room that is asked for
+abbrev pub run : Call → Expected
+run (unary op v) = ofOutcome (unaryOf base op v)
+run (binary op v w) = ofOutcome (binaryOf base op v w)
+run (evaluates b row) = ofResult (evaluation base b row [] 32768 0)
+run (folds b) = ofFolding (folding base b [] 32768 0 448)
+
+-- the test that two answers are the same
+abbrev pub sameAnswer : Expected → Expected → Bool
+sameAnswer (gives v) (gives w) = isEqual (order v w)
+sameAnswer (gives v) (stops n) = false
+sameAnswer (gives v) (refuses n p) = false
+sameAnswer (gives v) (writes b) = false
+sameAnswer (stops m) (gives w) = false
+sameAnswer (stops m) (stops n) = eqb m n
+sameAnswer (stops m) (refuses n p) = false
+sameAnswer (stops m) (writes b) = false
+sameAnswer (refuses m p) (gives w) = false
+sameAnswer (refuses m p) (stops n) = false
+sameAnswer (refuses m p) (refuses n q) = both (eqb m n) (eqb p q)
+sameAnswer (refuses m p) (writes b) = false
+sameAnswer (writes a) (gives w) = false
+sameAnswer (writes a) (stops n) = false
+sameAnswer (writes a) (refuses n q) = false
+sameAnswer (writes a) (writes b) = sameBytes a b
 
 -- the example comes out as expected
 unfoldable pub comesOut : Example → Bool
-comesOut e = sameOutcome (run (e .call)) (e .answer)
+comesOut e = sameAnswer (run (e .call)) (e .answer)
