@@ -124,6 +124,7 @@ pub fn evaluate(
             operators::unary(rules, op, v, t)
         }
         Node::Two(op, l) => {
+            let r = k - 1;
             let a = operand(rules, nodes, l, depth - 1, row, text, used, top);
             let Answer::Gave(v, t) = a else {
                 return a;
@@ -131,7 +132,7 @@ pub fn evaluate(
             if decided(op, v) {
                 return Answer::Gave(operators::flag(truth(v)), t);
             }
-            let b = operand(rules, nodes, k - 1, depth - 1, row, text, used, t);
+            let b = operand(rules, nodes, r, depth - 1, row, text, used, t);
             let Answer::Gave(w, u) = b else {
                 return b;
             };

@@ -78,11 +78,18 @@ module _ (used : ℕ) where
     after-output : orElse (oldStop used old) (orElse (countedFrom (length old) (formStop (parsed Mixed used new))) never) ≡ never
     after-output = never-both (outputStop output) _ after-room .1
 
+    -- each condition alone
+    pub old-sound : oldStop used old ≡ never
+    old-sound = never-both (oldStop used old) _ after-output .0
+
+    pub new-sound : formStop (parsed Mixed used new) ≡ never
+    new-sound = counted-never (length old) _ (never-both (countedFrom (length old) (formStop (parsed Mixed used new))) never (never-both (oldStop used old) _ after-output .1) .0)
+
     pub each-old : length old ≤ 448
-    each-old = old-short old (never-both (oldStop used old) _ after-output .0)
+    each-old = old-short old old-sound
 
     pub each-new : length new ≤ 448
-    each-new = form-short new (counted-never (length old) _ (never-both (countedFrom (length old) (formStop (parsed Mixed used new))) never (never-both (oldStop used old) _ after-output .1) .0))
+    each-new = form-short new new-sound
 
     pub each-output : 448 ≤ output
     each-output = by (ltb output 448) refl (never-both (outputStop output) _ after-room .0)

@@ -115,6 +115,9 @@ evaluate-unary-requires t c κs = one-known _ _ _ _ _ _ _ _ (c .before .before .
 evaluate-enum-known-op-2 : (t : ℕ) → evaluate-lts.Need-enum-known-op-2 (rs t) (evaluate-at t) evaluate.Post
 evaluate-enum-known-op-2 t c = search needs
 
+evaluate-sub-r : (t : ℕ) → evaluate-lts.Need-sub-r (rs t) (evaluate-at t) evaluate.Post
+evaluate-sub-r t c = two-below _ _ _ _ _ _ _ _ (c .before .before .before .before .before .before .before .before .pre .1) _ _ (sym (c .before .before .before .node-of .ensures) ∙ c .before .op2 .given .1)
+
 evaluate-sub-operand-3 : (t : ℕ) → evaluate-lts.Need-sub-operand-3 (rs t) (evaluate-at t) evaluate.Post
 evaluate-sub-operand-3 t c = deep _ _ _ _ _ _ _ _ (c .before .before .before .before .before .before .before .before .pre .1)
 
@@ -146,10 +149,7 @@ evaluate-returns-3 : (t : ℕ) → evaluate-lts.Need-returns-3 (rs t) (evaluate-
 evaluate-returns-3 t c = (left-decided _ _ _ _ _ _ _ _ (c .before .before .before .before .before .before .before .before .before .before .before .before .before .before .before .before .before .before .before .pre .1) _ _ (sym (c .before .before .before .before .before .before .before .before .before .before .before .before .before .before .node-of .ensures) ∙ c .before .before .before .before .before .before .before .before .before .before .before .before .op2 .given .1) _ _ _ (rw (c .before .before .before .before .before .a2 .given .1) at (c .before .before .before .before .before .before .before .before .before .operand2 .ensures .0)) (c .before .before .before .before .before .before .before .before .before .operand2 .kept .1 .1 .1 .1 .1 .0) _ (c .before .before .before .decided .ensures) _ _ (c .before .before .if1 .taken) (c .before .truth .ensures) (c .flag .ensures), left-lies _ _ _ _ _ _ _ _ (c .before .before .before .before .before .before .before .before .before .before .before .before .before .before .before .before .before .before .before .pre .1) _ _ (sym (c .before .before .before .before .before .before .before .before .before .before .before .before .before .before .node-of .ensures) ∙ c .before .before .before .before .before .before .before .before .before .before .before .before .op2 .given .1) _ _ _ (rw (c .before .before .before .before .before .a2 .given .1) at (c .before .before .before .before .before .before .before .before .before .operand2 .ensures .0)) (c .before .before .before .before .before .before .before .before .before .operand2 .kept .1 .1 .1 .1 .1 .0) _ (c .before .before .before .decided .ensures) _ _ (c .flag .ensures))
 
 evaluate-sub-operand-4 : (t : ℕ) → evaluate-lts.Need-sub-operand-4 (rs t) (evaluate-at t) evaluate.Post
-evaluate-sub-operand-4 t c = two-below _ _ _ _ _ _ _ _ (c .before .before .before .before .before .before .before .before .before .before .before .before .before .before .before .before .before .pre .1) _ _ (sym (c .before .before .before .before .before .before .before .before .before .before .before .before .node-of .ensures) ∙ c .before .before .before .before .before .before .before .before .before .before .op2 .given .1)
-
-evaluate-sub-operand-5 : (t : ℕ) → evaluate-lts.Need-sub-operand-5 (rs t) (evaluate-at t) evaluate.Post
-evaluate-sub-operand-5 t c = deep _ _ _ _ _ _ _ _ (c .before .before .before .before .before .before .before .before .before .before .before .before .before .before .before .before .before .pre .1)
+evaluate-sub-operand-4 t c = deep _ _ _ _ _ _ _ _ (c .before .before .before .before .before .before .before .before .before .before .before .before .before .before .before .before .before .pre .1)
 
 evaluate-operand-requires-3 : (t : ℕ) → evaluate-lts.Need-operand-requires-3 (rs t) (evaluate-at t) evaluate.Post
 evaluate-operand-requires-3 t c κs = (omega (arith, c .before .before .before .before .before .before .before .before .before .before .before .before .before .before .before .before .before .before .pre .0, deep _ _ _ _ _ _ _ _ (c .before .before .before .before .before .before .before .before .before .before .before .before .before .before .before .before .before .before .pre .1)), right-asks _ _ _ _ _ _ _ _ (c .before .before .before .before .before .before .before .before .before .before .before .before .before .before .before .before .before .before .pre .1) _ _ (sym (c .before .before .before .before .before .before .before .before .before .before .before .before .before .node-of .ensures) ∙ c .before .before .before .before .before .before .before .before .before .before .before .op2 .given .1) _ _ _ (rw (c .before .before .before .before .a2 .given .1) at (c .before .before .before .before .before .before .before .before .operand2 .ensures .0)) (c .before .before .before .before .before .before .before .before .operand2 .kept .1 .1 .1 .1 .1 .0) _ (c .before .before .decided .ensures) (c .before .if1 .left))
@@ -220,6 +220,7 @@ pub +evaluate+operand-spec : {M : Type 1} → statement M
     (evaluate-returns t)
     (evaluate-unary-requires t)
     (evaluate-enum-known-op-2 t)
+    (evaluate-sub-r t)
     (evaluate-sub-operand-3 t)
     (evaluate-operand-requires-2 t)
     (evaluate-enum-known-a-2 t)
@@ -231,7 +232,6 @@ pub +evaluate+operand-spec : {M : Type 1} → statement M
     (evaluate-same-length-3 t)
     (evaluate-returns-3 t)
     (evaluate-sub-operand-4 t)
-    (evaluate-sub-operand-5 t)
     (evaluate-operand-requires-3 t)
     (evaluate-enum-known-b t)
     (evaluate-same-length-4 t)

@@ -46,7 +46,7 @@ returns-3 : tie.Need-returns-3
 returns-3 c = refused-first _ _ _ _ (c .enum-told6 .given .1) (c .before .before .check-old .ensures) ∙ sym (sound-first _ _ _ (c .before .before .before .enum-told3 .given .1) (c .before .before .before .before .before .check-output .ensures)) ∙ sym (sound-first _ _ _ (c .before .before .before .before .before .before .enum-told .given .1) (c .before .before .before .before .before .before .before .before .check-room .ensures))
 
 check-form-requires : tie.Need-check-form-requires
-check-form-requires c κs = old-short (c .before .before .before .before .before .before .before .before .before .before .before .args .used) (now (c .before .before .before .before .before .before .before .before .before .before .before .args .old)) (told-sound _ _ (c .enum-told5 .given .1) (c .before .before .check-old .ensures))
+check-form-requires c κs = omega (arith, old-short (c .before .before .before .before .before .before .before .before .before .before .before .args .used) (now (c .before .before .before .before .before .before .before .before .before .before .before .args .old)) (told-sound _ _ (c .enum-told5 .given .1) (c .before .before .check-old .ensures)))
 
 returns-4 : tie.Need-returns-4
 returns-4 c = c .check-form .ensures ∙ sym (last-first _) ∙ sym (sound-first _ _ _ (c .before .enum-told5 .given .1) (c .before .before .before .check-old .ensures)) ∙ sym (sound-first _ _ _ (c .before .before .before .before .enum-told3 .given .1) (c .before .before .before .before .before .before .check-output .ensures)) ∙ sym (sound-first _ _ _ (c .before .before .before .before .before .before .before .enum-told .given .1) (c .before .before .before .before .before .before .before .before .before .check-room .ensures))
