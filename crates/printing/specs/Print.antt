@@ -1,0 +1,102 @@
+-- The call `print`: a named condition by precedence, format_with_precedence of expr.rs (document 01, "Printing"). Assumes nothing: these are definitions.
+use Prim.Native.Nat.{ℕ, zero, suc, _+_}
+use mathlib.Core.Bool.{Bool, true, false, cond}
+use mathlib.Core.List.{List, [], _∷_, _++_}
+use lib.ListN.{length, getD}
+use lib.Dec.{ltb, eqb}
+use Rattle.refusals.specs.Stop.{Stop, never, stopIf, orElse, firstOf}
+use Rattle.slices.specs.Splice.{piece}
+use Rattle.slices.specs.Bytes.{both}
+use Rattle.writing.specs.Writing.{WrittenIs}
+use Rattle.writing.specs.declared.Written.{Written}
+use Rattle.checks.specs.Check.{roomStop}
+use Rattle.conditions.specs.Ast.{Tree, Ast, Atom, leaf, unary, binary, literal, column, named, mapTree}
+use Rattle.conditions.specs.Table.{leafOf}
+use Rattle.nodes.specs.Kind.{bodyOf, two, four}
+use Rattle.nodes.specs.declared.Allowed.the-variants.{Named}
+use Rattle.forms.specs.Form.{Parsed, tree, refusal, parsed, formStop}
+use Rattle.display.specs.Display.{display, hasHigh}
+
+-- BinOp::precedence, and Ast::And and Ast::Or: OR 1, AND 2, comparisons 3, `|` 4, `^` 5, `&` 6, shifts 7, `+ -` 8, `* /` 9
+unfoldable pub precedence : ℕ → ℕ
+precedence op =
+    cond (ltb op 38) 3
+    (cond (ltb op 40) 8
+    (cond (ltb op 42) 9 (cond (eqb op 42) 6 (cond (eqb op 43) 4 (cond (eqb op 44) 5 (cond (ltb op 47) 7 (cond (eqb op 48) 2 1)))))))
+
+-- the sign of a two-sided operator, in the order of the kinds: = != < <= > >= + - * / & | ^ << >>, then AND and OR
+unfoldable pub sign : ℕ → List ℕ
+sign op =
+    cond (eqb op 32) (61 ∷ [])
+    (cond (eqb op 33) (33 ∷ 61 ∷ [])
+    (cond (eqb op 34) (60 ∷ [])
+    (cond (eqb op 35) (60 ∷ 61 ∷ [])
+    (cond (eqb op 36) (62 ∷ [])
+    (cond (eqb op 37) (62 ∷ 61 ∷ [])
+    (cond (eqb op 38) (43 ∷ [])
+    (cond (eqb op 39) (45 ∷ [])
+    (cond (eqb op 40) (42 ∷ [])
+    (cond (eqb op 41) (47 ∷ [])
+    (cond (eqb op 42) (38 ∷ [])
+    (cond (eqb op 43) (124 ∷ [])
+    (cond (eqb op 44) (94 ∷ [])
+    (cond (eqb op 45) (60 ∷ 60 ∷ [])
+    (cond (eqb op 46) (62 ∷ 62 ∷ []) (cond (eqb op 48) (65 ∷ 78 ∷ 68 ∷ []) (79 ∷ 82 ∷ []))))))))))))))))
+
+-- one space (32) each side
+abbrev pub spaced : ℕ → List ℕ
+spaced op = 32 ∷ (sign op ++ (32 ∷ []))
+
+-- unary `-`, `~`, `NOT `
+unfoldable pub prefix : ℕ → List ℕ
+prefix op = cond (eqb op 16) (45 ∷ []) (cond (eqb op 17) (126 ∷ []) (78 ∷ 79 ∷ 84 ∷ 32 ∷ []))
+
+-- parentheses (40, 41) where a test holds
+abbrev pub parenthesised : Bool → List ℕ → List ℕ
+parenthesised true s = 40 ∷ (s ++ (41 ∷ []))
+parenthesised false s = s
+
+-- a literal as its value is displayed, a column by its name (a named condition has no numbers)
+abbrev pub printedAtom : Atom → List ℕ
+printedAtom (literal v) = display v
+printedAtom (column c) = []
+printedAtom (named name) = name
+
+-- the printed text of a tree of which a precedence is asked: the left operand is asked the operator's, the right one more, parentheses
+-- when the own is below the asked; unary operators ask 10 and get none
+unfoldable pub printed : ℕ → Ast → List ℕ
+printed asked (leaf x) = printedAtom x
+printed asked (unary op a) = prefix op ++ printed 10 a
+printed asked (binary op a b) =
+    parenthesised (ltb (precedence op) asked) (printed (precedence op) a ++ (spaced op ++ printed (precedence op + 1) b))
+
+-- a text literal with a byte of 128 or more, at an offset of the condition's bytes
+abbrev pub isUnprintable : List ℕ → List ℕ → ℕ → Bool
+isUnprintable stored b at = both (eqb (getD b at 0) 2) (hasHigh (piece (four b (at + 1)) (two b (at + 5)) stored))
+
+-- 15 over the literals in byte order, from an offset on, where so many nodes are left at most
+unfoldable pub textsStop : List ℕ → List ℕ → ℕ → ℕ → Stop
+textsStop stored b zero at = never
+textsStop stored b (suc f) at =
+    cond (ltb at (length b)) (orElse (stopIf (isUnprintable stored b at) 15 at) (textsStop stored b f (at + 1 + bodyOf (getD b at 0)))) never
+
+-- the whole condition, of which nothing is asked
+abbrev pub printedAll : List ℕ → Parsed → List ℕ
+printedAll stored (tree t) = printed 0 (mapTree (leafOf stored) t)
+printedAll stored (refusal number place) = []
+
+-- all that stops `print`, in document 01's order: 10, the form, 15, then 9 with the bytes that the whole text takes
+abbrev pub printStop : List ℕ → List ℕ → ℕ → ℕ → ℕ → Stop
+printStop b stored size used output =
+    firstOf
+    (roomStop 0 size used
+    ∷ formStop (parsed Named used b)
+    ∷ textsStop stored b 64 0
+    ∷ stopIf (ltb output (length (printedAll stored (parsed Named used b)))) 9 (length (printedAll stored (parsed Named used b)))
+    ∷ [])
+
+-- what `print` answers and writes
+abbrev pub PrintIs : List ℕ → List ℕ → ℕ → ℕ → List ℕ → List ℕ → Written → Type 0
+PrintIs b stored size used before after answer =
+    WrittenIs before after answer (printStop b stored size used (length before)) (length (printedAll stored (parsed Named used b)))
+    (printedAll stored (parsed Named used b))
