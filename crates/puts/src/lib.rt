@@ -1,4 +1,5 @@
 // Bytes put one after another, as far as there is room: the same calls count, given an empty output, and write.
+ghost use mathlib.Core.Bool.{cond};
 ghost use mathlib.Core.List.{[], _∷_};
 ghost use Prim.Native.Nat.{_+_, _<_, _^_};
 ghost use lib.ListN.{length};
@@ -14,6 +15,17 @@ pub fn put_byte(b: u8, out: &mut [u8], at: usize) -> usize
         out[at] = b;
     }
     next
+}
+
+// One byte where a test holds, or none.
+pub fn put_if(test: bool, b: u8, out: &mut [u8], at: usize) -> usize
+    requires { ⌜ at + 1 < 2 ^ 64 ⌝ }
+    ensures { λ r. ⌜ Puts (now (out .entry)) at (cond test (b ∷ []) []) r (now (out .exit)) ⌝ }
+{
+    if test {
+        return put_byte(b, out, at);
+    }
+    at
 }
 
 // Bytes in order.
