@@ -1,7 +1,6 @@
 // Values as they are printed: Display of value.rs, a text as `{:?}` quotes it. Every call puts its bytes as far as there is room and returns the place
 // after all of them.
 ghost use mathlib.Core.Path.{_≡_};
-ghost use mathlib.Core.List.{[], _∷_};
 ghost use Prim.Native.Nat.{_+_, _*_, _<_, _^_};
 ghost use lib.ListN.{length};
 ghost use mir.Syntax.{w32};

@@ -1,11 +1,11 @@
--- How long a sign gets, and what stands before an operand. Assumes nothing.
+-- How long a sign gets, and what stands before an operand; how high a precedence. Assumes nothing.
 use mathlib.Core.Bool.{Bool, true, false, cond}
 use mathlib.Core.List.{List}
 use Prim.Native.Nat.{ℕ, _≤_}
 use native.Mathlib.Omega.{arith}
 use lib.ListN.{length, length-append}
-use lib.Dec.{eqb}
-use Rattle.signs.specs.Sign.{sign, spaced, prefix}
+use lib.Dec.{ltb, eqb}
+use Rattle.signs.specs.Sign.{precedence, sign, spaced, prefix}
 
 -- of two lists that are short, either is
 either : (t : Bool) (a b : List ℕ) (n : ℕ) → length a ≤ n → length b ≤ n → length (cond t a b) ≤ n
@@ -27,3 +27,19 @@ spaced-short op = rw length-append (omega (arith, sign-short op))
 pub prefix-short : (op : ℕ) → length (prefix op) ≤ 4
 unfolding prefix
 prefix-short op = either (eqb op 16) _ _ 4 (omega arith) (either (eqb op 17) _ _ 4 (omega arith) (omega arith))
+
+-- 9 is the highest, of two-sided operators
+pub precedence-small : (op : ℕ) → precedence op ≤ 9
+unfolding precedence
+precedence-small op = by (ltb op 38) (ltb op 40) (ltb op 42) (eqb op 42) (eqb op 43) (eqb op 44) (ltb op 47) (eqb op 48)
+  where
+    by : (a b c d e f g h : Bool) → cond a 3 (cond b 8 (cond c 9 (cond d 6 (cond e 4 (cond f 5 (cond g 7 (cond h 2 1))))))) ≤ 9
+    by true b c d e f g h = omega arith
+    by false true c d e f g h = omega arith
+    by false false true d e f g h = omega arith
+    by false false false true e f g h = omega arith
+    by false false false false true f g h = omega arith
+    by false false false false false true g h = omega arith
+    by false false false false false false true h = omega arith
+    by false false false false false false false true = omega arith
+    by false false false false false false false false = omega arith
