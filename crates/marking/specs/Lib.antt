@@ -1,0 +1,2 @@
+pub mod RowList
+pub mod Marks
