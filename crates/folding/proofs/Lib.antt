@@ -9,3 +9,4 @@ pub mod Places
 pub mod Standing
 pub mod Walking
 pub mod Calling
+pub mod Unique
