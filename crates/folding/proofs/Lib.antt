@@ -10,3 +10,4 @@ pub mod Standing
 pub mod Walking
 pub mod Calling
 pub mod Unique
+pub mod ReadBack

@@ -4,7 +4,6 @@ use mathlib.Core.List.{List}
 use Prim.Native.Nat.{ℕ}
 use native.Mathlib.Omega.{arith}
 use lib.ListN.{length, take}
-use Rattle.refusals.specs.Told.{told}
 use Rattle.refusals.specs.Stop.{Stop, never, stop, stopOf}
 use Rattle.refusals.proofs.Unique.{one-refusal}
 use Rattle.folding.specs.Fold.{Folding}
