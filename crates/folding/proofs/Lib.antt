@@ -11,3 +11,6 @@ pub mod Walking
 pub mod Calling
 pub mod Unique
 pub mod ReadBack
+pub mod Forms
+pub mod Evaluating
+pub mod Promise
