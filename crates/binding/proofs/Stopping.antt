@@ -24,7 +24,9 @@ use Rattle.forms.specs.Form.{tree, refusal, parsed, formStop}
 use Rattle.forms.specs.Held.{Denotes, ScanIs}
 use Rattle.forms.specs.declared.Scanned.{Scanned}
 use Rattle.forms.specs.declared.Scanned.the-variants.{Table, Denied}
-use Rattle.binding.specs.Bind.{isTableLength, namesStop, ofTree, bindStop, boundBytes, BindIs}
+use Rattle.tables.specs.Table.{isTable, countStop}
+use Rattle.tables.proofs.Words.{table-counted}
+use Rattle.binding.specs.Bind.{namesStop, ofTree, bindStop, boundBytes, BindIs}
 use Rattle.binding.specs.Asked.{beforeStop}
 use Rattle.binding.specs.Walk.{BindAsks, Binds}
 use Rattle.binding.specs.declared.Part.{Part}
@@ -43,16 +45,15 @@ not-stopped : (x : Bool) (n p : ℕ) → stopIf x n p ≡ never → x ≡ false
 not-stopped true n p e = absurd (let z : _≡_ {A = ℕ} 0 1 = cc in omega arith)
 not-stopped false n p e = refl
 
--- two words a column, 1 to 32 columns
-table-bounds : (n : ℕ) → not (isTableLength n) ≡ false → (2 ≤ n) × (n ≤ 64)
-unfolding isTableLength
-table-bounds n e = by (eqb (n % 2) 0) refl (leb 1 (n / 2)) refl (leb (n / 2) 32) refl e
-  where
-    by : (x : Bool) → eqb (n % 2) 0 ≡ x → (y : Bool) → leb 1 (n / 2) ≡ y → (z : Bool) → leb (n / 2) 32 ≡ z → not (both x (both y z)) ≡ false → (2 ≤ n) × (n ≤ 64)
-    by true p true q true r e = (omega (arith, leb-true 1 (n / 2) q), omega (arith, eqb-true (n % 2) 0 p, leb-true (n / 2) 32 r))
-    by true p true q false r e = absurd (let z : _≡_ {A = ℕ} 0 1 = cc in omega arith)
-    by true p false q z r e = absurd (let z : _≡_ {A = ℕ} 0 1 = cc in omega arith)
-    by false p y q z r e = absurd (let z : _≡_ {A = ℕ} 0 1 = cc in omega arith)
+-- a table that is not stopped has 2 to 64 words
+not-not : (x : Bool) → not x ≡ false → x ≡ true
+not-not true e = refl
+not-not false e = absurd (let z : _≡_ {A = ℕ} 0 1 = cc in omega arith)
+
+table-bounds : (columns : List ℕ) → countStop (isTable columns) ≡ never → (2 ≤ length columns) × (length columns ≤ 64)
+table-bounds columns e =
+    let t = table-counted columns (not-not (isTable columns) (not-stopped (not (isTable columns)) 8 0 e)) in
+    (omega (arith, t .whole, t .some), omega (arith, t .whole, t .few))
 
 module _ (b columns stored : List ℕ) (size used output : ℕ) where
   -- what stops the whole
@@ -65,7 +66,7 @@ module _ (b columns stored : List ℕ) (size used output : ℕ) where
 
   -- what stops it before the condition, then the rest
   in-groups : whole ≡ orElse (beforeStop columns size used output) later
-  in-groups = in-order (roomStop 32768 size used) (outputStop output) (stopIf (not (isTableLength (length columns))) 8 0) (columnsStop used 0 columns) later
+  in-groups = in-order (roomStop 32768 size used) (outputStop output) (countStop (isTable columns)) (columnsStop used 0 columns) later
 
   -- a refusal before the condition is the whole's
   pub before-stops : (r : Refusal) → beforeStop columns size used output ≡ stopOf r → bindStop b columns stored size used output ≡ stopOf r
@@ -74,11 +75,11 @@ module _ (b columns stored : List ℕ) (size used output : ℕ) where
   -- nothing is wrong with the text, the output and the columns
   module _ (e : beforeStop columns size used output ≡ never) where
     -- after the room
-    after-room : orElse (outputStop output) (orElse (stopIf (not (isTableLength (length columns))) 8 0) (columnsStop used 0 columns)) ≡ never
+    after-room : orElse (outputStop output) (orElse (countStop (isTable columns)) (columnsStop used 0 columns)) ≡ never
     after-room = never-both (roomStop 32768 size used) _ e .1
 
     -- after the output
-    after-output : orElse (stopIf (not (isTableLength (length columns))) 8 0) (columnsStop used 0 columns) ≡ never
+    after-output : orElse (countStop (isTable columns)) (columnsStop used 0 columns) ≡ never
     after-output = never-both (outputStop output) _ after-room .1
 
     -- the text is small enough, and there is room above the mark
@@ -91,11 +92,11 @@ module _ (b columns stored : List ℕ) (size used output : ℕ) where
 
     -- there are 1 to 32 columns
     pub columns-count : (2 ≤ length columns) × (length columns ≤ 64)
-    columns-count = table-bounds (length columns) (not-stopped _ 8 0 (never-both (stopIf (not (isTableLength (length columns))) 8 0) _ after-output .0))
+    columns-count = table-bounds columns (never-both (countStop (isTable columns)) _ after-output .0)
 
     -- the columns' words are sound
     columns-sound : columnsStop used 0 columns ≡ never
-    columns-sound = never-both (stopIf (not (isTableLength (length columns))) 8 0) _ after-output .1
+    columns-sound = never-both (countStop (isTable columns)) _ after-output .1
 
     -- the rest decides
     left : whole ≡ later

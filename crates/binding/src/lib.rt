@@ -5,7 +5,7 @@ ghost use Prim.Native.Nat.{ℕ};
 ghost use lib.ListN.{length, take};
 ghost use Rattle.refusals.specs.Stop.{checkedOf, stopIf};
 ghost use Rattle.conditions.specs.Ast.{Tree, leaf};
-ghost use Rattle.binding.specs.Bind.{isTableLength, BindIs};
+ghost use Rattle.binding.specs.Bind.{BindIs};
 ghost use Rattle.binding.specs.Asked.{LeafAsks, beforeStop};
 ghost use Rattle.binding.specs.Walk.{BindAsks, Binds};
 use columns::Found;
@@ -90,22 +90,6 @@ fn bind_node(
     }
 }
 
-// What is wrong with the count of a table's column words.
-fn check_count(count: usize) -> Checked
-    ensures { λ r. ⌜ checkedOf r ≡ stopIf (not (isTableLength count)) 8 0 ⌝ }
-{
-    if count % 2 != 0 {
-        return Checked::Refused(Refusal::Malformed(0));
-    }
-    if count / 2 < 1 {
-        return Checked::Refused(Refusal::Malformed(0));
-    }
-    if 32 < count / 2 {
-        return Checked::Refused(Refusal::Malformed(0));
-    }
-    Checked::Sound
-}
-
 // What is wrong with the text, the output and the columns.
 fn check_before(columns: &[u64], size: usize, used: usize, output: usize) -> Checked
     ensures { λ r. ⌜ checkedOf r ≡ beforeStop (now (columns .entry)) size used output ⌝ }
@@ -118,7 +102,7 @@ fn check_before(columns: &[u64], size: usize, used: usize, output: usize) -> Che
     let Checked::Sound = place else {
         return place;
     };
-    let count = check_count(columns.len());
+    let count = tables::check_count(columns);
     let Checked::Sound = count else {
         return count;
     };

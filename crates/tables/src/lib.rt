@@ -4,9 +4,10 @@ ghost use mathlib.Core.List.{[], _∷_};
 ghost use Prim.Native.Nat.{_+_, _<_, _≤_, _^_};
 ghost use lib.ListN.{length};
 ghost use Rattle.refusals.specs.Stop.{checkedOf};
-ghost use Rattle.tables.specs.Table.{isTable, areRows, wordsStop, rowAt};
+ghost use Rattle.tables.specs.Table.{isTable, countStop, areRows, wordsStop, rowAt};
 use columns::RowNumber;
 use refusals::Checked;
+use refusals::Refusal;
 
 // Whether column words are a table of 1 to 32 columns.
 pub fn is_table(columns: &[u64]) -> bool
@@ -19,6 +20,16 @@ pub fn is_table(columns: &[u64]) -> bool
         return false;
     }
     columns.len() <= 64
+}
+
+// What is wrong with the count of a table's column words.
+pub fn check_count(columns: &[u64]) -> Checked
+    ensures { λ r. ⌜ checkedOf r ≡ countStop (isTable (now (columns .entry))) ⌝ }
+{
+    if !is_table(columns) {
+        return Checked::Refused(Refusal::Malformed(0));
+    }
+    Checked::Sound
 }
 
 // Whether words are 0 to 4,096 rows of so many cells.
