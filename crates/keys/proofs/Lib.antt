@@ -2,3 +2,6 @@
 pub mod Turns
 pub mod Stopping
 pub mod Unique
+pub mod Chains
+pub mod Values
+pub mod Order
