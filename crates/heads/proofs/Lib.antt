@@ -1,0 +1,6 @@
+-- What the proofs of several functions use, here and above.
+pub mod Naming
+pub mod Joining
+pub mod Stopping
+pub mod Rising
+pub mod Calling
