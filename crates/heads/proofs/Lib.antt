@@ -4,3 +4,4 @@ pub mod Joining
 pub mod Stopping
 pub mod Rising
 pub mod Calling
+pub mod Unique
