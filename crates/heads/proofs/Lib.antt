@@ -5,3 +5,4 @@ pub mod Stopping
 pub mod Rising
 pub mod Calling
 pub mod Unique
+pub mod Sound
