@@ -4,3 +4,5 @@ pub mod Joining
 pub mod Stopping
 pub mod Rising
 pub mod Calling
+pub mod Unique
+pub mod Sound

@@ -3,7 +3,7 @@ use mathlib.Core.Path.{_≡_, refl, sym, ap₂, subst, _∙_}
 use mathlib.Core.List.{List, [], _∷_, _++_, append-assoc}
 use Prim.Native.Nat.{ℕ, suc, _+_, _*_, _^_, _≤_, _<_}
 use native.Mathlib.Omega.{arith}
-use lib.ListN.{length, take, set, length-append, length-set}
+use lib.ListN.{length, take, set, length-append}
 use lib.Seq.{length-take-le}
 use borrow.Author.Tests.{le-leb, lt-leb}
 use Rattle.slices.specs.Splice.{piece, Wrote}
@@ -64,8 +64,8 @@ module _ (table x : List ℕ) (word top : ℕ) (asks : NameAsks word top (length
       dot-inside : dot < length x₁
       dot-inside = omega (arith, first .place, wrote-length first, asks .room)
 
-      pub column-room : (startOf word + lengthOf word ≤ dot + 1) × (dot + 1 + lengthOf word ≤ length (set x₁ dot 46))
-      column-room = (omega (arith, first .place, asks .inside), omega (arith, length-set x₁ dot 46, first .place, wrote-length first, asks .room))
+      pub column-room : (startOf word + lengthOf word ≤ dot + 1) × (dot + 1 + lengthOf word ≤ length x₁)
+      column-room = (omega (arith, first .place, asks .inside), omega (arith, first .place, wrote-length first, asks .room))
 
       -- table name and dot stand there
       dotted : Wrote x top (table ++ (46 ∷ [])) (dot + 1) (set x₁ dot 46)

@@ -29,7 +29,7 @@ text-kind w e = by (isCell w) e
 
 module _ (m n : ℕ) (l : m ≤ n) where
   -- a name, a column and all columns
-  name-rises : (w p q : ℕ) → nameStop m w p ≡ never → nameStop n w q ≡ never
+  pub name-rises : (w p q : ℕ) → nameStop m w p ≡ never → nameStop n w q ≡ never
   unfolding nameStop
   name-rises w p q h =
       let a = never-both (stopIf (not (isText w)) 8 p) _ h in

@@ -17,7 +17,7 @@ add-long-2 : tie.Need-add-long-2
 add-long-2 c = search needs
 
 returns-2 : tie.Need-returns-2
-returns-2 c = name-refused (now (c .before .before .before .before .args .table)) (now (c .before .before .before .before .args .text)) _ _ (c .before .before .before .before .pre) (c .before .if1 .left) (c .if2 .taken)
+returns-2 c = name-refused (now (c .before .before .before .before .args .table)) (now (c .before .before .before .before .args .text)) _ _ (c .before .before .before .before .pre) (c .before .if1 .left) (omega (arith, c .if2 .taken))
 
 copy-bytes-requires : tie.Need-copy-bytes-requires
 copy-bytes-requires c κs = search needs
@@ -29,7 +29,7 @@ add-copy-up : tie.Need-add-copy-up
 add-copy-up c = search needs
 
 copy-up-requires : tie.Need-copy-up-requires
-copy-up-requires c κs = column-room (now (c .before .before .before .before .before .before .before .before .before .args .table)) (now (c .before .before .before .before .before .before .before .before .before .args .text)) _ _ (c .before .before .before .before .before .before .before .before .before .pre) (c .before .before .before .before .before .before .if1 .left) (c .before .before .before .before .before .if2 .left) _ _ (c .before .before .before .copy-bytes .ensures)
+copy-up-requires c κs = simp length-set (column-room (now (c .before .before .before .before .before .before .before .before .before .args .table)) (now (c .before .before .before .before .before .before .before .before .before .args .text)) _ _ (c .before .before .before .before .before .before .before .before .before .pre) (c .before .before .before .before .before .before .if1 .left) (c .before .before .before .before .before .if2 .left) _ _ (c .before .before .before .copy-bytes .ensures))
 
 mul-t12 : tie.Need-mul-t12
 mul-t12 c = search needs
@@ -41,7 +41,7 @@ add-t22 : tie.Need-add-t22
 add-t22 c = search needs
 
 same-length : tie.Need-same-length
-same-length c = omega (arith, length-set (c .before .before .before .before .before .before .copy-bytes .last .1 .0) (c .before .before .before .before .before .before .copy-bytes .result) 46, c .before .before .copy-up .kept .0, c .before .before .before .before .before .before .copy-bytes .kept .1 .0)
+same-length c = omega (arith, simp length-set at (c .before .before .copy-up .kept .0), c .before .before .before .before .before .before .copy-bytes .kept .1 .0)
 
 returns-3 : tie.Need-returns-3
 returns-3 c = name-appended (now (c .before .before .before .before .before .before .before .before .before .before .before .before .args .table)) (now (c .before .before .before .before .before .before .before .before .before .before .before .before .args .text)) _ _ (c .before .before .before .before .before .before .before .before .before .before .before .before .pre) (c .before .before .before .before .before .before .before .before .before .if1 .left) (c .before .before .before .before .before .before .before .before .if2 .left) _ _ (c .before .before .before .before .before .before .copy-bytes .ensures) _ _ (c .before .before .copy-up .ensures)
