@@ -13,6 +13,7 @@ use Rattle.cells.specs.Cell.{kindOf, startOf, lengthOf}
 use Rattle.values.specs.Value.{Value, null}
 use Rattle.columns.specs.Column.{columnsStop, Where, nowhere, found, firstFrom, columnNamed}
 use Rattle.checks.specs.Check.{roomStop, outputStop}
+use Rattle.tables.specs.Table.{isTable, countStop}
 use Rattle.nodes.specs.declared.Allowed.the-variants.{Named}
 use Rattle.conditions.specs.Ast.{Tree, leaf, unary, binary, Atom, literal, column, named, mapTree}
 use Rattle.forms.specs.Form.{Parsed, tree, refusal, parsed, formStop}
@@ -45,17 +46,13 @@ abbrev pub ofTree : (Tree ℕ → Stop) → Parsed → Stop
 ofTree f (tree t) = f t
 ofTree f (refusal number place) = never
 
--- two words a column, 1 to 32 columns
-unfoldable pub isTableLength : ℕ → Bool
-isTableLength n = both (eqb (n % 2) 0) (both (leb 1 (n / 2)) (leb (n / 2) 32))
-
 -- all that stops `bind`, in document 01's order
 abbrev pub bindStop : List ℕ → List ℕ → List ℕ → ℕ → ℕ → ℕ → Stop
 bindStop b columns stored size used output =
     firstOf
     (roomStop 32768 size used
     ∷ outputStop output
-    ∷ stopIf (not (isTableLength (length columns))) 8 0
+    ∷ countStop (isTable columns)
     ∷ columnsStop used 0 columns
     ∷ formStop (parsed Named used b)
     ∷ ofTree (namesStop stored columns 0) (parsed Named used b)

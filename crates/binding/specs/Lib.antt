@@ -1,2 +1,3 @@
 pub mod Bind
+pub mod Asked
 pub mod Walk

@@ -1,10 +1,12 @@
 // The call `bind`: column names give way to column numbers.
 ghost use mathlib.Core.Path.{_≡_};
-ghost use Prim.Native.Nat.{ℕ, _+_, _<_, _≤_};
+ghost use mathlib.Core.Bool.{not};
+ghost use Prim.Native.Nat.{ℕ};
 ghost use lib.ListN.{length, take};
-ghost use Rattle.refusals.specs.Stop.{checkedOf};
-ghost use Rattle.conditions.specs.Ast.{Tree};
-ghost use Rattle.binding.specs.Bind.{isTableLength, BindIs};
+ghost use Rattle.refusals.specs.Stop.{checkedOf, stopIf};
+ghost use Rattle.conditions.specs.Ast.{Tree, leaf};
+ghost use Rattle.binding.specs.Bind.{BindIs};
+ghost use Rattle.binding.specs.Asked.{LeafAsks, beforeStop};
 ghost use Rattle.binding.specs.Walk.{BindAsks, Binds};
 use columns::Found;
 use conditions::Node;
@@ -18,4 +20,115 @@ use writing::Written;
 pub enum Part {
     Bound(usize, usize),
     Refused(Refusal),
+}
+
+// A leaf: a name, of 7 bytes, gives way to its column's number, of 2; any other leaf is written as it is.
+fn bind_leaf(
+    word: u64,
+    columns: &[u64],
+    stored: &[u8],
+    at: usize,
+    out: &mut [u8],
+    end: usize,
+) -> Part
+    requires { ⌜ LeafAsks (now stored) (now columns) (now out) word at end ⌝ }
+    ensures { λ r. ⌜ Binds (now (stored .entry)) (now (columns .entry)) (now (out .entry)) (now (out .exit)) at end (leaf word) r ⌝ }
+{
+    let kind = word / 0x100_0000_0000_0000;
+    if kind != 3 {
+        let next = at + 1 + nodes::body_of(kind);
+        return Part::Bound(postfix::write_leaf(word, out, end), next);
+    }
+    let start = (word / 65536 % 0x1_0000_0000) as usize;
+    let past = start + (word % 65536) as usize;
+    match columns::find_column(columns, stored, &stored[start..past]) {
+        Found::Nothing => Part::Refused(Refusal::NoSuchColumn(at)),
+        Found::At(number) => {
+            let bound = 0x400_0000_0000_0000 + number.0 as u64;
+            Part::Bound(postfix::write_leaf(bound, out, end), at + 7)
+        }
+    }
+}
+
+// The tree whose last node stands at k, by recursion with falling depth: operands first, the left one before the right, then the operator.
+fn bind_node(
+    nodes: &[u64],
+    k: usize,
+    depth: usize,
+    columns: &[u64],
+    stored: &[u8],
+    at: usize,
+    out: &mut [u8],
+    end: usize,
+) -> Part
+    requires { ⌜ ((t : Tree ℕ) × BindAsks (now stored) (now columns) (now nodes) (now out) k depth at end t) ⌝ }
+    ensures { λ r. ⌜ ((t : Tree ℕ) → BindAsks (now (stored .entry)) (now (columns .entry)) (now (nodes .entry)) (now (out .entry)) k depth at end t →
+        Binds (now (stored .entry)) (now (columns .entry)) (now (out .entry)) (now (out .exit)) at end t r) ⌝ }
+{
+    match conditions::node_of(nodes[k]) {
+        Node::Leaf(word) => bind_leaf(word, columns, stored, at, out, end),
+        Node::One(op) => {
+            let a = bind_node(nodes, k - 1, depth - 1, columns, stored, at, out, end);
+            let Part::Bound(e, n) = a else {
+                return a;
+            };
+            out[e] = op as u8;
+            Part::Bound(e + 1, n + 1)
+        }
+        Node::Two(op, l) => {
+            let a = bind_node(nodes, l, depth - 1, columns, stored, at, out, end);
+            let Part::Bound(d, m) = a else {
+                return a;
+            };
+            let b = bind_node(nodes, k - 1, depth - 1, columns, stored, m, out, d);
+            let Part::Bound(e, n) = b else {
+                return b;
+            };
+            out[e] = op as u8;
+            Part::Bound(e + 1, n + 1)
+        }
+    }
+}
+
+// What is wrong with the text, the output and the columns.
+fn check_before(columns: &[u64], size: usize, used: usize, output: usize) -> Checked
+    ensures { λ r. ⌜ checkedOf r ≡ beforeStop (now (columns .entry)) size used output ⌝ }
+{
+    let room = checks::check_room(size, used, 32768);
+    let Checked::Sound = room else {
+        return room;
+    };
+    let place = checks::check_output(output);
+    let Checked::Sound = place else {
+        return place;
+    };
+    let count = tables::check_count(columns);
+    let Checked::Sound = count else {
+        return count;
+    };
+    columns::check_columns(columns, used, 0)
+}
+
+// `bind`: the bytes are put together in a buffer of their own, since a refused call leaves the output alone.
+pub fn bind(condition: &[u8], columns: &[u64], text: &[u8], used: usize, out: &mut [u8]) -> Written
+    ensures { λ r. ⌜ BindIs (now (condition .entry)) (now (columns .entry)) (take used (now (text .entry))) (length (now (text .entry))) used
+        (now (out .entry)) (now (out .exit)) r ⌝ }
+{
+    let before = check_before(columns, text.len(), used, out.len());
+    if let Checked::Refused(r) = before {
+        return Written::Refused(r);
+    }
+    let mut table = [0u64; 64];
+    let scanned = forms::scan(Allowed::Named, condition, used, &mut table);
+    match scanned {
+        Scanned::Denied(r) => Written::Refused(r),
+        Scanned::Table(n) => {
+            let mut space = [0u8; 448];
+            let whole = bind_node(&table, n - 1, 16, columns, &text[..used], 0, &mut space, 0);
+            match whole {
+                Part::Refused(r) => Written::Refused(r),
+                Part::Bound(end, _) => writing::write_bytes(&space[..end], out),
+            }
+        }
+    }
 }

@@ -46,7 +46,7 @@ fn leaf(word: u64, row: &[u64], used: usize) -> u64
 }
 
 // The truth of a cell's word.
-fn truth(word: u64) -> bool
+pub fn truth(word: u64) -> bool
     ensures { λ r. ⌜ ((stored : List ℕ) → WellFormed (length stored) word → r ≡ toBool (valueOf stored word)) ⌝ }
 {
     values::to_bool(ValueRef::from_word(word))

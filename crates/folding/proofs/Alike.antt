@@ -1,4 +1,4 @@
--- The promise of folding: if it is accepted, both conditions evaluate alike on every row, refusal numbers included. Assumes nothing.
+-- The promise of folding, on trees (Promise.antt has it about the calls): if it is accepted, both conditions evaluate alike on every row, refusal numbers included. Assumes nothing.
 use mathlib.Core.Path.{_≡_, refl, sym, ap, ap₂, _∙_}
 use mathlib.Core.Bool.{Bool, true, false, cond}
 use mathlib.Core.List.{List, _++_}

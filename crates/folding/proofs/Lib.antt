@@ -9,3 +9,8 @@ pub mod Places
 pub mod Standing
 pub mod Walking
 pub mod Calling
+pub mod Unique
+pub mod ReadBack
+pub mod Forms
+pub mod Evaluating
+pub mod Promise

@@ -28,6 +28,15 @@ pub struct Expected {
     pub used: u64,
 }
 
+// A case from its text on, where an output of bytes follows it: the text, the output's length, the answer's numbers, the written bytes, the new text.
+pub struct Rest {
+    pub lent: Text,
+    pub room: usize,
+    pub expected: Expected,
+    pub written: Field,
+    pub new: Field,
+}
+
 fn byte(case: &[u8], at: usize) -> u64
     ensures { λ r. ⌜ (r ≡ getD (now (case .entry)) at 0) × (r < 256) ⌝ }
 {
@@ -153,6 +162,24 @@ pub fn answer(case: &[u8], at: usize) -> Expected
     }
 }
 
+// All from the text at a place on, where an output of bytes follows it.
+pub fn rest_of(case: &[u8], at: usize) -> Rest
+    requires { ⌜ at ≤ length (now case) ⌝ }
+    ensures { λ r. ⌜ (r .lent .stored .start + r .lent .stored .count ≤ length (now (case .entry))) × (r .written .start + r .written .count ≤ length (now (case .entry))) × (r .new .start + r .new .count ≤ length (now (case .entry))) ⌝ }
+{
+    let lent = lent(case, at);
+    let output = lent.stored.next;
+    let place = after(case, output, 4);
+    let written = bytes(case, after(case, place, 32));
+    Rest {
+        lent,
+        room: four(case, output) as usize,
+        expected: answer(case, place),
+        written,
+        new: bytes(case, written.next),
+    }
+}
+
 // Whether these are the numbers expected.
 pub fn is_answer(e: Expected, number: u64, place: usize, value: usize, used: usize) -> bool {
     number == e.number
@@ -195,6 +222,16 @@ pub fn output_is(out: &[u8], result: &[u8], rubbish: u64) -> bool {
         i += 1;
     }
     true
+}
+
+// Whether a text holds the stored bytes at its start, and the new ones from there to the mark or its end.
+pub fn text_is(text: &[u8], stored: &[u8], new: &[u8], mark: usize) -> bool {
+    let start = stored.len();
+    let end = after(text, 0, mark);
+    if end < start {
+        return false;
+    }
+    slices::equal_bytes(&text[0..start], stored) && slices::equal_bytes(&text[start..end], new)
 }
 
 // Whether a word is the text expected, computed above the mark.
@@ -242,4 +279,15 @@ pub fn tell(case: u64) {
     io::write_all(STDOUT_FILENO, b"case ");
     io::print_decimal(STDOUT_FILENO, case);
     io::write_all(STDOUT_FILENO, b" differs\n");
+}
+
+// 0 where the case of this number agrees; 1 where it differs, which is told.
+pub fn verdict(case: u64, agrees: bool) -> u64
+    ensures { λ r. ⌜ r ≤ 1 ⌝ }
+{
+    if agrees {
+        return 0;
+    }
+    tell(case);
+    1
 }

@@ -1,7 +1,5 @@
 // Replays the recorded cases of `with` (docs/CASES.md, call 21) from standard input.
-ghost use mathlib.Core.Path.{_≡_};
 ghost use Prim.Native.Nat.{_≤_};
-ghost use lib.ListN.{length};
 use replay::Expected;
 use writing::Written;
 
@@ -18,28 +16,24 @@ fn called(
     old: &[u8],
     new: &[u8],
     stored: &[u8],
-    result: &[u8],
+    written: &[u8],
     e: Expected,
     text: &mut [u8],
     used: usize,
     out: &mut [u8],
     rubbish: u64,
-) -> bool
-    ensures { λ _. ⌜ (length (now (text .exit)) ≡ length (now (text .entry))) × (length (now (out .exit)) ≡ length (now (out .entry))) ⌝ }
-{
+) -> bool {
     if text.len() < stored.len() {
         return false;
     }
     replay::lend(text, stored, rubbish);
     replay::lend(out, &stored[..0], rubbish);
     let answer = conjunction::with(old, new, text, used, out);
-    agrees(answer, e, used) && replay::output_is(out, result, rubbish)
+    agrees(answer, e, used) && replay::output_is(out, written, rubbish)
 }
 
 // One case.
-fn replays(case: &[u8], text: &mut [u8], out: &mut [u8], rubbish: u64) -> bool
-    ensures { λ _. ⌜ (length (now (text .exit)) ≡ length (now (text .entry))) × (length (now (out .exit)) ≡ length (now (out .entry))) ⌝ }
-{
+fn replays(case: &[u8], text: &mut [u8], out: &mut [u8], rubbish: u64) -> bool {
     if case.len() < 4 {
         return false;
     }
@@ -48,12 +42,9 @@ fn replays(case: &[u8], text: &mut [u8], out: &mut [u8], rubbish: u64) -> bool
     }
     let old = replay::bytes(case, 4);
     let new = replay::bytes(case, old.next);
-    let lent = replay::lent(case, new.next);
-    let size = lent.size;
-    let room = replay::four(case, lent.stored.next) as usize;
-    let at = replay::after(case, lent.stored.next, 4);
-    let e = replay::answer(case, at);
-    let result = replay::bytes(case, replay::after(case, at, 32));
+    let rest = replay::rest_of(case, new.next);
+    let size = rest.lent.size;
+    let room = rest.room;
     if text.len() < size {
         return false;
     }
@@ -63,29 +54,23 @@ fn replays(case: &[u8], text: &mut [u8], out: &mut [u8], rubbish: u64) -> bool
     called(
         replay::part(case, old),
         replay::part(case, new),
-        replay::part(case, lent.stored),
-        replay::part(case, result),
-        e,
-        &mut text[..size],
-        lent.used,
-        &mut out[..room],
+        replay::part(case, rest.lent.stored),
+        replay::part(case, rest.written),
+        rest.expected,
+        &mut text[0..size],
+        rest.lent.used,
+        &mut out[0..room],
         rubbish,
     )
 }
 
 // 1 where the case of this number differs under either rubbish, which is told, else 0.
 fn difference(case: &[u8], text: &mut [u8], out: &mut [u8], number: u64) -> u64
-    ensures { λ r. ⌜ (r ≤ 1) × (length (now (text .exit)) ≡ length (now (text .entry))) × (length (now (out .exit)) ≡ length (now (out .entry))) ⌝ }
+    ensures { λ r. ⌜ r ≤ 1 ⌝ }
 {
     let one = replays(case, text, out, number % 1000);
     let two = replays(case, text, out, 77 + number % 1000);
-    if one {
-        if two {
-            return 0;
-        }
-    }
-    replay::tell(number);
-    1
+    replay::verdict(number, one && two)
 }
 
 fn main() {
@@ -102,7 +87,7 @@ fn main() {
         if size == 0 {
             break;
         }
-        differ += difference(&buffer[..size], text, out, cases);
+        differ += difference(&buffer[0..size], text, out, cases);
         cases += 1;
     }
     replay::report(cases, differ);

@@ -1,0 +1,293 @@
+-- The laws of the walk: what a tree asks of its operands, and how the operands' parts make the whole one. Assumes nothing.
+use mathlib.Core.Path.{_≡_, refl, ap, _∙_}
+use mathlib.Core.List.{List, [], _∷_, _++_, append-assoc}
+use Prim.Native.Nat.{ℕ, _+_, _-_, _*_, _≤_, _<_, max}
+use native.Mathlib.Omega.{arith}
+use native.Mathlib.Numerals.{add-one}
+use lib.ListN.{length, take, set, getD, length-append}
+use lib.Seq.{take-suc-set}
+use Rattle.refusals.specs.Stop.{stopOf}
+use Rattle.refusals.specs.declared.Refusal.{Refusal}
+use Rattle.conditions.specs.Ast.{Tree, leaf, unary, binary, mapTree, size, height}
+use Rattle.conditions.specs.Table.{nodeOf}
+use Rattle.conditions.specs.declared.Node.the-variants.{Leaf, One, Two}
+use Rattle.forms.specs.Held.{LeafHeld, Denotes}
+use Rattle.postfix.specs.Postfix.{bytesOf, width}
+use Rattle.postfix.proofs.Reading.{width-size}
+use Rattle.binding.specs.Bind.{bindLeaf, namesStop}
+use Rattle.binding.specs.Asked.{LeafAsks}
+use Rattle.binding.specs.Walk.{BindAsks, Binds}
+use Rattle.binding.specs.declared.Part.{Part}
+use Rattle.binding.specs.declared.Part.the-variants.{Bound, Refused}
+
+-- binding changes no count
+pub size-map : {A B : Type 0} (f : A → B) (t : Tree A) → size (mapTree f t) ≡ size t
+unfolding size mapTree
+size-map f (leaf x) = refl
+size-map f (unary op a) = ap (λ n. n + 1) (size-map f a)
+size-map f (binary op a b) = omega (arith, size-map f a, size-map f b)
+
+-- a bound tree takes at most 7 bytes a node
+pub bound-width : (stored columns : List ℕ) (t : Tree ℕ) → width (mapTree (bindLeaf stored columns) t) ≤ 7 * size t
+bound-width stored columns t = omega (arith, width-size (mapTree (bindLeaf stored columns) t), size-map (bindLeaf stored columns) t)
+
+-- every tree has a height
+height-pos : (t : Tree ℕ) → 0 < height t
+unfolding height
+height-pos (leaf w) = omega arith
+height-pos (unary op a) = omega arith
+height-pos (binary op a b) = omega arith
+
+-- one more byte after what stands before it
+operator-list : (before after s : List ℕ) (end e op : ℕ) → e < length after → take e after ≡ take end before ++ s
+    → take (e + 1) (set after e op) ≡ take end before ++ (s ++ (op ∷ []))
+operator-list before after s end e op h w = rw (add-one, take-suc-set) (ap (λ l. l ++ (op ∷ [])) w ∙ append-assoc (take end before) s (op ∷ []))
+
+module _ (used : ℕ) (nodes : List ℕ) (k : ℕ) where
+  -- the node at k tells the tree
+  at-leaf : (w : ℕ) → nodeOf (getD nodes k 0) ≡ Leaf w → (t : Tree ℕ) → Denotes used nodes k t → (t ≡ leaf w) × LeafHeld used w
+  unfolding Denotes
+  at-leaf w e (leaf x) h = let q : x ≡ w = (let p = h .0 in cc) in (ap leaf q, rw q at (h .1))
+  at-leaf w e (unary op a) h = absurd (let p = h .0 in let z : _≡_ {A = ℕ} 0 1 = cc in omega arith)
+  at-leaf w e (binary op a b) h = absurd (let p = h .1 in let z : _≡_ {A = ℕ} 0 1 = cc in omega arith)
+
+  -- an operator over one operand
+  at-one : (op : ℕ) → nodeOf (getD nodes k 0) ≡ One op → (t : Tree ℕ) → Denotes used nodes k t
+      → (a : Tree ℕ) × (t ≡ unary op a) × ((16 ≤ op) × (op < 19)) × (0 < k) × Denotes used nodes (k - 1) a
+  unfolding Denotes
+  at-one op e (leaf x) h = absurd (let p = h .0 in let z : _≡_ {A = ℕ} 0 1 = cc in omega arith)
+  at-one op e (unary o a) h = let q : o ≡ op = (let p = h .0 in cc) in (a, ap (λ x. unary x a) q, rw q at (h .1), h .2, h .3)
+  at-one op e (binary o a b) h = absurd (let p = h .1 in let z : _≡_ {A = ℕ} 0 1 = cc in omega arith)
+
+  -- an operator over two
+  at-two : (op l : ℕ) → nodeOf (getD nodes k 0) ≡ Two op l → (t : Tree ℕ) → Denotes used nodes k t
+      → (a : Tree ℕ) × (b : Tree ℕ) × (t ≡ binary op a b) × ((32 ≤ op) × (op < 50)) × (l < k) × Denotes used nodes l a × Denotes used nodes (k - 1) b
+  unfolding Denotes
+  at-two op l e (leaf x) h = absurd (let p = h .0 in let z : _≡_ {A = ℕ} 0 1 = cc in omega arith)
+  at-two op l e (unary o a) h = absurd (let p = h .0 in let z : _≡_ {A = ℕ} 0 1 = cc in omega arith)
+  at-two op l e (binary o a b) h =
+      let q : o ≡ op = (let p = h .1 in cc) in
+      let r : h .0 ≡ l = (let p = h .1 in cc) in
+      (a, b, ap (λ x. binary x a b) q, rw q at (h .2), rw r at (h .3), rw r at (h .4), h .5)
+
+module _ {stored columns nodes before : List ℕ} {k depth at end : ℕ} {t : Tree ℕ} (A : BindAsks stored columns nodes before k depth at end t) where
+  -- a call may go one deeper
+  pub deep : 0 < depth
+  deep = omega (arith, height-pos t, A .deep)
+
+  module _ {w : ℕ} (e : nodeOf (getD nodes k 0) ≡ Leaf w) where
+    -- the tree is the leaf
+    is-leaf : (t ≡ leaf w) × LeafHeld (length stored) w
+    is-leaf = at-leaf (length stored) nodes k w e t (A .held)
+
+    -- what the leaf asks
+    pub leaf-asks : LeafAsks stored columns before w at end
+    unfolding size
+    leaf-asks =
+        let q : size t ≡ 1 = ap size (is-leaf .0) in
+        record { sound = A .sound; few = A .few; held = is-leaf .1; space = omega (arith, A .space); early = omega (arith, A .early) }
+
+    -- the leaf's part is the tree's
+    pub leaf-bound : (after : List ℕ) (r : Part) → Binds stored columns before after at end (leaf w) r → Binds stored columns before after at end t r
+    leaf-bound after r h = rw (is-leaf .0) h
+
+  module _ {op : ℕ} (e : nodeOf (getD nodes k 0) ≡ One op) where
+    -- the operand
+    abbrev only : Tree ℕ
+    only = at-one (length stored) nodes k op e t (A .held) .0
+
+    -- the tree is the operator over it
+    one-tree : t ≡ unary op only
+    one-tree = at-one (length stored) nodes k op e t (A .held) .1
+
+    -- the operator is a byte
+    pub one-known : op < 19
+    one-known = at-one (length stored) nodes k op e t (A .held) .2 .1
+
+    -- the operand stands before it
+    pub one-below : 0 < k
+    one-below = at-one (length stored) nodes k op e t (A .held) .3
+
+    -- one node more
+    one-size : size t ≡ size only + 1
+    unfolding size
+    one-size = ap size one-tree
+
+    -- one higher
+    one-height : height t ≡ height only + 1
+    unfolding height
+    one-height = ap height one-tree
+
+    -- the operand asks no more than the tree
+    only-asks : BindAsks stored columns nodes before (k - 1) (depth - 1) at end only
+    only-asks = record {
+      sound = A .sound;
+      few = A .few;
+      held = at-one (length stored) nodes k op e t (A .held) .4;
+      deep = omega (arith, one-height, A .deep);
+      inside = omega (arith, A .inside);
+      space = omega (arith, one-size, A .space);
+      early = omega (arith, one-size, A .early);
+    }
+
+    -- what the operand asks
+    pub one-asks : (s : Tree ℕ) × BindAsks stored columns nodes before (k - 1) (depth - 1) at end s
+    one-asks = (only, only-asks)
+
+    -- the operand was bound, or refused
+    module _ (after : List ℕ) (r : Part)
+        (f : (s : Tree ℕ) → BindAsks stored columns nodes before (k - 1) (depth - 1) at end s → Binds stored columns before after at end s r) where
+      -- its refusal is handed on
+      pub one-refused : {q : Refusal} → r ≡ Refused q → Binds stored columns before after at end t r
+      unfolding namesStop
+      one-refused {q} g =
+          let h : namesStop stored columns at only ≡ stopOf q = rw g at (f only only-asks) in
+          rw (g, one-tree) h
+
+      module _ {p n : ℕ} (g : r ≡ Bound p n) (long : length after ≡ length before) where
+        -- the operand's part
+        operand : Binds stored columns before after at end only (Bound p n)
+        operand = rw g at (f only only-asks)
+
+        -- there is space for the operator
+        pub one-room : p < length after
+        one-room = omega (arith, operand .1, bound-width stored columns only, one-size, A .space)
+
+        -- the offset after the operand is one of the condition's
+        pub one-next : n < 448
+        one-next = omega (arith, operand .3, width-size only, one-size, A .early)
+
+        -- with the operator after it, the operand's part is the tree's
+        pub one-binds : Binds stored columns before (set after p op) at end t (Bound (p + 1) (n + 1))
+        unfolding namesStop mapTree bytesOf
+        one-binds = rw one-tree (
+          operand .0,
+          omega (arith, operand .1, length-append (bytesOf (mapTree (bindLeaf stored columns) only)) (op ∷ [])),
+          operator-list before after (bytesOf (mapTree (bindLeaf stored columns) only)) end p op one-room (operand .2),
+          omega (arith, operand .3, length-append (bytesOf only) (op ∷ [])),
+        )
+
+  module _ {op l : ℕ} (e : nodeOf (getD nodes k 0) ≡ Two op l) where
+    -- the left operand
+    abbrev left : Tree ℕ
+    left = at-two (length stored) nodes k op l e t (A .held) .0
+
+    -- the right operand
+    abbrev right : Tree ℕ
+    right = at-two (length stored) nodes k op l e t (A .held) .1
+
+    -- the tree is the operator over them
+    two-tree : t ≡ binary op left right
+    two-tree = at-two (length stored) nodes k op l e t (A .held) .2
+
+    -- the operator is a byte
+    pub two-known : op < 50
+    two-known = at-two (length stored) nodes k op l e t (A .held) .3 .1
+
+    -- the left operand stands before it
+    left-below : l < k
+    left-below = at-two (length stored) nodes k op l e t (A .held) .4
+
+    -- so does the right one
+    pub two-below : 0 < k
+    two-below = omega (arith, left-below)
+
+    -- one node more than both
+    two-size : size t ≡ size left + size right + 1
+    unfolding size
+    two-size = ap size two-tree
+
+    -- one higher than the higher
+    two-height : height t ≡ max (height left) (height right) + 1
+    unfolding height
+    two-height = ap height two-tree
+
+    -- the left operand asks no more than the tree
+    left-ready : BindAsks stored columns nodes before l (depth - 1) at end left
+    left-ready = record {
+      sound = A .sound;
+      few = A .few;
+      held = at-two (length stored) nodes k op l e t (A .held) .5;
+      deep = omega (arith, two-height, A .deep);
+      inside = omega (arith, left-below, A .inside);
+      space = omega (arith, two-size, A .space);
+      early = omega (arith, two-size, A .early);
+    }
+
+    -- what the left operand asks
+    pub left-asks : (s : Tree ℕ) × BindAsks stored columns nodes before l (depth - 1) at end s
+    left-asks = (left, left-ready)
+
+    -- the left operand was bound, or refused
+    module _ (middle : List ℕ) (r : Part)
+        (f : (s : Tree ℕ) → BindAsks stored columns nodes before l (depth - 1) at end s → Binds stored columns before middle at end s r) where
+      -- its refusal is handed on
+      pub left-refused : {q : Refusal} → r ≡ Refused q → Binds stored columns before middle at end t r
+      unfolding namesStop
+      left-refused {q} g =
+          let h : namesStop stored columns at left ≡ stopOf q = rw g at (f left left-ready) in
+          rw (g, two-tree, h)
+
+      module _ {d m : ℕ} (g : r ≡ Bound d m) (long : length middle ≡ length before) where
+        -- the left operand's part
+        first : Binds stored columns before middle at end left (Bound d m)
+        first = rw g at (f left left-ready)
+
+        -- the right operand asks no more than what is left
+        right-ready : BindAsks stored columns nodes middle (k - 1) (depth - 1) m d right
+        right-ready = record {
+          sound = A .sound;
+          few = A .few;
+          held = at-two (length stored) nodes k op l e t (A .held) .6;
+          deep = omega (arith, two-height, A .deep);
+          inside = omega (arith, A .inside);
+          space = omega (arith, first .1, bound-width stored columns left, two-size, A .space);
+          early = omega (arith, first .3, width-size left, two-size, A .early);
+        }
+
+        -- what the right operand asks
+        pub right-asks : (s : Tree ℕ) × BindAsks stored columns nodes middle (k - 1) (depth - 1) m d s
+        right-asks = (right, right-ready)
+
+        -- the right operand was bound, or refused
+        module _ (after : List ℕ) (s : Part)
+            (f₂ : (u : Tree ℕ) → BindAsks stored columns nodes middle (k - 1) (depth - 1) m d u → Binds stored columns middle after m d u s) where
+          -- the right operand's bytes begin where the left one's end
+          right-names : namesStop stored columns at t ≡ namesStop stored columns m right
+          unfolding namesStop
+          right-names = ap (namesStop stored columns at) two-tree ∙ rw (first .0, first .3)
+
+          -- its refusal is handed on
+          pub right-refused : {q : Refusal} → s ≡ Refused q → Binds stored columns before after at end t s
+          right-refused {q} g₂ =
+              let h : namesStop stored columns m right ≡ stopOf q = rw g₂ at (f₂ right right-ready) in
+              rw g₂ (right-names ∙ h)
+
+          module _ {p n : ℕ} (g₂ : s ≡ Bound p n) (long₂ : length after ≡ length middle) where
+            -- the right operand's part
+            second : Binds stored columns middle after m d right (Bound p n)
+            second = rw g₂ at (f₂ right right-ready)
+
+            -- there is space for the operator
+            pub two-room : p < length after
+            two-room = omega (arith, first .1, second .1, bound-width stored columns left, bound-width stored columns right, two-size, A .space)
+
+            -- the offset after the operands is one of the condition's
+            pub two-next : n < 448
+            two-next = omega (arith, first .3, second .3, width-size left, width-size right, two-size, A .early)
+
+            -- the bytes of the two operands
+            both-bytes : take p after ≡ take end before ++ (bytesOf (mapTree (bindLeaf stored columns) left) ++ bytesOf (mapTree (bindLeaf stored columns) right))
+            both-bytes = second .2 ∙ ap (λ x. x ++ bytesOf (mapTree (bindLeaf stored columns) right)) (first .2) ∙ append-assoc (take end before) _ _
+
+            -- with the operator after them, the operands' parts are the tree's
+            pub two-binds : Binds stored columns before (set after p op) at end t (Bound (p + 1) (n + 1))
+            unfolding mapTree bytesOf
+            two-binds =
+                let x = bytesOf (mapTree (bindLeaf stored columns) left) in
+                let y = bytesOf (mapTree (bindLeaf stored columns) right) in (
+                  right-names ∙ second .0,
+                  rw two-tree (omega (arith, first .1, second .1, length-append x (y ++ (op ∷ [])), length-append y (op ∷ []))),
+                  rw two-tree (operator-list before after (x ++ y) end p op two-room both-bytes ∙ ap (λ z. take end before ++ z) (append-assoc x y (op ∷ []))),
+                  rw two-tree (omega (arith, first .3, second .3, length-append (bytesOf left) (bytesOf right ++ (op ∷ [])), length-append (bytesOf right) (op ∷ []))),
+                )

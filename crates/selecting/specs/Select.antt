@@ -1,0 +1,84 @@
+-- The calls `select` and `delete` (document 01, "Row calls"; Select::exec and Delete::exec of query.rs). Assumes nothing: these are definitions.
+use Prim.Native.Nat.{ℕ, suc, _+_, _*_, _/_}
+use mathlib.Core.Bool.{Bool, true, false, cond}
+use mathlib.Core.List.{List, [], _∷_, map}
+use lib.ListN.{length, take, getD}
+use lib.Dec.{ltb, leb}
+use Rattle.refusals.specs.Stop.{Stop, never, stopIf, orElse, firstOf}
+use Rattle.slices.specs.Bytes.{both}
+use Rattle.writing.specs.Writing.{WrittenIs}
+use Rattle.writing.specs.declared.Written.{Written}
+use Rattle.checks.specs.Check.{roomStop}
+use Rattle.operators.specs.declared.Rules.{Rules}
+use Rattle.tables.specs.Table.{columnCount, isTable, areRows, countStop, wordsStop}
+use Rattle.testing.specs.Test.{conditionStop, roomFor}
+use Rattle.marking.specs.RowList.{Test, trueRows, otherRows, refusedFrom, wordsOf}
+use Rattle.marking.specs.Marks.{part, testOf}
+
+-- how many rows a table has
+abbrev pub rowCount : List ℕ → List ℕ → ℕ
+rowCount columns rows = length rows / columnCount columns
+
+-- a row's listed columns in the list's order; an empty list means all
+abbrev pub projected : List ℕ → List ℕ → List ℕ
+projected [] row = row
+projected (c ∷ list) row = map (λ i. getD row i 0) (c ∷ list)
+
+-- 4 at the index of the first entry that is no column, the first entry having this index
+unfoldable pub listStop : ℕ → ℕ → List ℕ → Stop
+listStop width index [] = never
+listStop width index (c ∷ list) = orElse (stopIf (leb width c) 4 index) (listStop width (suc index) list)
+
+-- what every call on one table looks at first: 10, counts, words
+abbrev pub tableStop : Bool → List ℕ → List ℕ → List ℕ → ℕ → ℕ → Stop
+tableStop counts b columns rows size used =
+    firstOf
+    (roomStop (roomFor b) size used
+    ∷ countStop (both (both (isTable columns) (areRows (columnCount columns) rows)) counts)
+    ∷ wordsStop used (columns ∷ [] ∷ []) (rows ∷ [] ∷ [])
+    ∷ [])
+
+-- 9 with the words that the whole result takes
+abbrev pub shortStop : ℕ → ℕ → Stop
+shortStop output needed = stopIf (ltb output needed) 9 needed
+
+-- the words that select lists: the true rows in order, then projected
+abbrev pub selected : Test → List ℕ → List ℕ → List ℕ → List ℕ
+selected t columns rows list = wordsOf (λ i. projected list (part rows (columnCount columns) i)) (trueRows t (rowCount columns rows))
+
+abbrev pub selectStop : Test → List ℕ → List ℕ → List ℕ → List ℕ → ℕ → ℕ → ℕ → Stop
+selectStop t b columns rows list size used output =
+    firstOf
+    (tableStop (leb (length list) 32) b columns rows size used
+    ∷ listStop (columnCount columns) 0 list
+    ∷ conditionStop used (columnCount columns) b
+    ∷ refusedFrom t 0 (rowCount columns rows)
+    ∷ shortStop output (length (selected t columns rows list))
+    ∷ [])
+
+-- what `select` answers and writes
+abbrev pub SelectIs : Rules → List ℕ → List ℕ → List ℕ → List ℕ → List ℕ → ℕ → ℕ → List ℕ → List ℕ → Written → Type 0
+SelectIs R columns rows list b stored size used before after answer =
+    WrittenIs before after answer (selectStop (testOf R b used stored rows (columnCount columns)) b columns rows list size used (length before))
+    (length (trueRows (testOf R b used stored rows (columnCount columns)) (rowCount columns rows)))
+    (selected (testOf R b used stored rows (columnCount columns)) columns rows list)
+
+-- the words that delete keeps: the other rows in order
+abbrev pub remaining : Test → List ℕ → List ℕ → List ℕ
+remaining t columns rows = wordsOf (part rows (columnCount columns)) (otherRows t (rowCount columns rows))
+
+abbrev pub deleteStop : Test → List ℕ → List ℕ → List ℕ → ℕ → ℕ → ℕ → Stop
+deleteStop t b columns rows size used output =
+    firstOf
+    (tableStop true b columns rows size used
+    ∷ conditionStop used (columnCount columns) b
+    ∷ refusedFrom t 0 (rowCount columns rows)
+    ∷ shortStop output (length (remaining t columns rows))
+    ∷ [])
+
+-- what `delete` answers and writes
+abbrev pub DeleteIs : Rules → List ℕ → List ℕ → List ℕ → List ℕ → ℕ → ℕ → List ℕ → List ℕ → Written → Type 0
+DeleteIs R columns rows b stored size used before after answer =
+    WrittenIs before after answer (deleteStop (testOf R b used stored rows (columnCount columns)) b columns rows size used (length before))
+    (length (otherRows (testOf R b used stored rows (columnCount columns)) (rowCount columns rows)))
+    (remaining (testOf R b used stored rows (columnCount columns)) columns rows)

@@ -1,0 +1,82 @@
+-- The first fault of the words given, one list after another. Assumes nothing.
+use mathlib.Core.Path.{_≡_, refl, sym, ap, _∙_}
+use mathlib.Core.Bool.{Bool, true, false}
+use mathlib.Core.List.{List, [], _∷_}
+use Prim.Native.Nat.{ℕ, zero, _+_, _*_, _/_, _%_, _≤_, _<_}
+use native.Mathlib.Omega.{arith}
+use lib.ListN.{length}
+use lib.Dec.{ltb, leb, eqb}
+use borrow.Author.Tests.{eqb-true, leb-true, leb-false, le-leb, lt-leb}
+use Rattle.refusals.specs.Stop.{Stop, never, stop, orElse}
+use Rattle.refusals.proofs.First.{never-both}
+use Rattle.slices.specs.Bytes.{both}
+use Rattle.columns.specs.Column.{columnsStop}
+use Rattle.checks.specs.Check.{cellsStop}
+use Rattle.tables.specs.Table.{columnCount, isColumnCount, isTable, areRows, columnWordsStop, cellWordsStop, total, wordsStop}
+
+last : (s : Stop) → orElse s never ≡ s
+last never = refl
+last (stop number place) = refl
+
+assoc : (a b c : Stop) → orElse (orElse a b) c ≡ orElse a (orElse b c)
+assoc never b c = refl
+assoc (stop number place) b c = refl
+
+-- two column tables and two tables of rows, one check after another
+pub words-are : (used : ℕ) (left right first second : List ℕ) →
+    wordsStop used (left ∷ right ∷ []) (first ∷ second ∷ [])
+    ≡ orElse (columnsStop used 0 left)
+    (orElse (columnsStop used (length left) right)
+    (orElse (cellsStop used (length left + length right) first) (cellsStop used (length left + length right + length first) second)))
+unfolding columnWordsStop cellWordsStop
+words-are used left right first second =
+    let n : length left + (length right + 0) ≡ length left + length right = omega arith in
+    let z : 0 + length left ≡ length left = omega arith in
+    rw (n, z, last (columnsStop used (length left) right), last (cellsStop used (length left + length right + length first) second))
+    (assoc (columnsStop used 0 left) (columnsStop used (length left) right) (orElse (cellsStop used (length left + length right) first) (cellsStop used (length left + length right + length first) second)))
+
+-- a list that isn't given has no fault
+pub no-columns : (used place : ℕ) → columnsStop used place [] ≡ never
+unfolding columnsStop
+no-columns used place = refl
+
+pub no-cells : (used place : ℕ) → cellsStop used place [] ≡ never
+unfolding cellsStop
+no-cells used place = refl
+
+-- where no word is at fault, none of its lists is
+pub words-sound : (used : ℕ) (left right first second : List ℕ) → wordsStop used (left ∷ right ∷ []) (first ∷ second ∷ []) ≡ never
+    → (columnsStop used 0 left ≡ never) × (columnsStop used (length left) right ≡ never) × (cellsStop used (length left + length right) first ≡ never)
+    × (cellsStop used (length left + length right + length first) second ≡ never)
+words-sound used left right first second h =
+    let a = never-both (columnsStop used 0 left) _ (sym (words-are used left right first second) ∙ h) in
+    let b = never-both (columnsStop used (length left) right) _ (a .1) in
+    let c = never-both (cellsStop used (length left + length right) first) _ (b .1) in
+    (a .0, b .0, c .0, c .1)
+
+-- ---- counts
+
+both-true : (a b : Bool) → both a b ≡ true → (a ≡ true) × (b ≡ true)
+both-true true b e = (refl, e)
+both-true false b e = absurd (let z : _≡_ {A = ℕ} 0 1 = cc in omega arith)
+
+-- a table has 2 to 64 words, two a column
+pub record Counted (columns : List ℕ) : Type 0 where
+  pub whole : length columns ≡ 2 * columnCount columns
+  pub some : 1 ≤ columnCount columns
+  pub few : columnCount columns ≤ 32
+
+pub table-counted : (columns : List ℕ) → isTable columns ≡ true → Counted columns
+unfolding isTable
+table-counted columns e =
+    let a = both-true (eqb (length columns % 2) 0) _ e in
+    let b = both-true (leb 1 (columnCount columns)) _ (a .1) in
+    let m : length columns % 2 ≡ 0 = eqb-true (length columns % 2) 0 (a .0) in
+    record { whole = omega arith; some = leb-true 1 (columnCount columns) (b .0); few = leb-true (columnCount columns) 32 (b .1) }
+
+pub halves : (n : ℕ) → n % 2 ≡ 0 → leb n 64 ≡ leb (n / 2) 32
+halves n e = by (leb n 64) refl
+  where
+    by : (x : Bool) → leb n 64 ≡ x → x ≡ leb (n / 2) 32
+    by true q = sym (le-leb (n / 2) 32 (omega (arith, leb-true n 64 q)))
+    by false q = sym (lt-leb (n / 2) 32 (omega (arith, leb-false n 64 q)))
