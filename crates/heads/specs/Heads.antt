@@ -1,8 +1,8 @@
 -- The calls `inner_join_columns` and `left_join_columns`: the columns of a join (document 01, "Joined columns get table name, dot, column name";
 -- Column::with_name_prefix and but_nullable of column.rs, Join of query.rs). Assumes nothing: these are definitions.
-use Prim.Native.Nat.{ℕ, suc, _+_, _*_, _≤_}
+use Prim.Native.Nat.{ℕ, suc, _+_}
 use mathlib.Core.Path.{_≡_}
-use mathlib.Core.Bool.{Bool, true, false, not, cond}
+use mathlib.Core.Bool.{Bool, true, false, cond}
 use mathlib.Core.List.{List, [], _∷_, _++_}
 use lib.ListN.{length, take}
 use lib.Dec.{ltb, leb}
