@@ -10,7 +10,7 @@ use Rattle.refusals.specs.Stop.{never, stop}
 use Rattle.slices.specs.Splice.{Wrote}
 use Rattle.slices.proofs.Splice.{wrote-front}
 use Rattle.cells.specs.Cell.{kindOf, startOf, lengthOf}
-use Rattle.columns.specs.Column.{found, names, firstFrom, columnNamed, foundOf}
+use Rattle.columns.specs.Column.{found, names, firstFrom, columnNamed, foundOf, orNext, nowhere}
 use Rattle.columns.specs.declared.Found.{Found}
 use Rattle.columns.specs.declared.Found.the-variants.{At, Nothing}
 use Rattle.columns.specs.declared.ColumnNumber.{ColumnNumber}
@@ -32,7 +32,7 @@ unfolding firstFrom
 first-below p n [] m e = absurd (let z : _≡_ {A = ℕ} 0 1 = cc in omega arith)
 first-below p n (x ∷ l) m e = by (p x) (first-below p (suc n) l m) e
   where
-    by : (b : Bool) → (firstFrom p (suc n) l ≡ found m → m < suc n + length l) → cond b (found n) (firstFrom p (suc n) l) ≡ found m → m < n + suc (length l)
+    by : (b : Bool) → (firstFrom p (suc n) l ≡ found m → m < suc n + length l) → orNext (cond b (found n) nowhere) (firstFrom p (suc n) l) ≡ found m → m < n + suc (length l)
     by true rest e = let q : n ≡ m = cc in omega arith
     by false rest e = omega (arith, rest e)
 

@@ -50,10 +50,15 @@ pub data Where : Type 0 where
   nowhere : Where
   found : ℕ → Where
 
+-- what is found, or else what comes next
+abbrev pub orNext : Where → Where → Where
+orNext nowhere next = next
+orNext (found n) next = found n
+
 -- the first element that passes a test, the first one having this number
 unfoldable pub firstFrom : {A : Type 0} → (A → Bool) → ℕ → List A → Where
 firstFrom test n [] = nowhere
-firstFrom test n (x ∷ xs) = cond (test x) (found n) (firstFrom test (suc n) xs)
+firstFrom test n (x ∷ xs) = orNext (cond (test x) (found n) nowhere) (firstFrom test (suc n) xs)
 
 -- the column of a name; of equal names the first (added)
 abbrev pub columnNamed : List ℕ → List ℕ → List ℕ → Where
