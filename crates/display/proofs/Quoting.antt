@@ -1,5 +1,5 @@
 -- Laws of a quoted text: a byte escaped, bytes one after another, and how long they get; bytes of 128 or more. Assumes nothing.
-use mathlib.Core.Path.{_≡_, ap, _∙_}
+use mathlib.Core.Path.{_≡_, _∙_}
 use mathlib.Core.Bool.{Bool, true, false, cond}
 use mathlib.Core.List.{List, [], _∷_, _++_}
 use Prim.Native.Nat.{ℕ, _+_, _*_, _/_, _%_, _≤_, _<_}
@@ -9,88 +9,90 @@ use lib.ListN.{length, drop, getD, length-append, drop-of-length-le}
 use lib.Seq.{drop-cons}
 use lib.Dec.{ltb, eqb}
 use borrow.Author.Tests.{lt-ltb, le-ltb, le-leb, lt-leb, ne-eqb}
+use Rattle.puts.proofs.Putting.{either}
 use Rattle.display.specs.Display.{hexDigit, hex, isControl, escaped, escapedAll, quoted, hasHigh}
 
 -- ---- one byte
 
 module _ (b : ℕ) where
+  -- one digit below 16
   pub hex-one : b < 16 → hex b ≡ hexDigit b ∷ []
   hex-one h = rw (lt-ltb b 16 h)
 
+  -- else two
   pub hex-two : 16 ≤ b → hex b ≡ (hexDigit (b / 16) ∷ []) ++ (hexDigit (b % 16) ∷ [])
   hex-two h = rw (le-ltb b 16 h)
 
+  -- at most two digits
   pub hex-short : length (hex b) ≤ 2
-  hex-short = by (ltb b 16)
-    where
-      by : (x : Bool) → length (cond x (hexDigit b ∷ []) (hexDigit (b / 16) ∷ hexDigit (b % 16) ∷ [])) ≤ 2
-      by true = omega arith
-      by false = omega arith
-
-  -- a byte below 32, or 127
-  pub below-control : b < 32 → isControl b ≡ true
-  below-control h = rw (lt-ltb b 32 h)
+  hex-short = either (ltb b 16) (hexDigit b ∷ []) (hexDigit (b / 16) ∷ hexDigit (b % 16) ∷ []) 2 (omega arith) (omega arith)
 
   module _ (n34 : b ≡ 34 → ⊥) (n92 : b ≡ 92 → ⊥) (n0 : b ≡ 0 → ⊥) (n9 : b ≡ 9 → ⊥) (n10 : b ≡ 10 → ⊥) (n13 : b ≡ 13 → ⊥) where
+    -- a byte with no sign of its own
     other : escaped b ≡ cond (isControl b) (92 ∷ 117 ∷ 123 ∷ (hex b ++ (125 ∷ []))) (b ∷ [])
     unfolding escaped
     other = rw (ne-eqb b 34 n34, ne-eqb b 92 n92, ne-eqb b 0 n0, ne-eqb b 9 n9, ne-eqb b 10 n10, ne-eqb b 13 n13)
 
+    -- below 32
     pub escaped-below : b < 32 → escaped b ≡ (92 ∷ 117 ∷ 123 ∷ []) ++ (hex b ++ (125 ∷ []))
-    escaped-below h = other ∙ ap (λ x. cond x (92 ∷ 117 ∷ 123 ∷ (hex b ++ (125 ∷ []))) (b ∷ [])) (below-control h)
+    escaped-below h = other ∙ rw (lt-ltb b 32 h)
 
+    -- any other is itself
     pub escaped-plain : 32 ≤ b → (b ≡ 127 → ⊥) → escaped b ≡ b ∷ []
     escaped-plain h n127 = other ∙ rw (le-ltb b 32 h, ne-eqb b 127 n127)
 
+  -- 127 is as those below 32
   pub escaped-127 : b ≡ 127 → escaped b ≡ (92 ∷ 117 ∷ 123 ∷ []) ++ (hex b ++ (125 ∷ []))
   unfolding escaped
   escaped-127 e = rw e
 
+  -- at most 6 bytes
   pub escaped-short : length (escaped b) ≤ 6
   unfolding escaped
-  escaped-short = by (eqb b 34) (eqb b 92) (eqb b 0) (eqb b 9) (eqb b 10) (eqb b 13) (isControl b)
-    where
-      by : (q s z t n r c : Bool)
-          → length (cond q (92 ∷ 34 ∷ []) (cond s (92 ∷ 92 ∷ []) (cond z (92 ∷ 48 ∷ []) (cond t (92 ∷ 116 ∷ []) (cond n (92 ∷ 110 ∷ []) (cond r (92 ∷ 114 ∷ []) (cond c (92 ∷ 117 ∷ 123 ∷ (hex b ++ (125 ∷ []))) (b ∷ [])))))))) ≤ 6
-      by true s z t n r c = omega arith
-      by false true z t n r c = omega arith
-      by false false true t n r c = omega arith
-      by false false false true n r c = omega arith
-      by false false false false true r c = omega arith
-      by false false false false false true c = omega arith
-      by false false false false false false true = rw length-append (omega (arith, hex-short))
-      by false false false false false false false = omega arith
+  escaped-short =
+      let s : (t : Bool) (a b : List ℕ) → length a ≤ 6 → length b ≤ 6 → length (cond t a b) ≤ 6 = λ t a b. either t a b 6 in
+      let c : length (92 ∷ 117 ∷ 123 ∷ (hex b ++ (125 ∷ []))) ≤ 6 = rw length-append (omega (arith, hex-short)) in
+      s (eqb b 34) _ _ (omega arith)
+      (s (eqb b 92) _ _ (omega arith)
+      (s (eqb b 0) _ _ (omega arith) (s (eqb b 9) _ _ (omega arith) (s (eqb b 10) _ _ (omega arith) (s (eqb b 13) _ _ (omega arith) (s (isControl b) _ (b ∷ []) c (omega arith)))))))
 
 -- ---- a text
 
+-- what is left of a text: its byte at an index, and the rest
 pub escaped-from : (l : List ℕ) (i : ℕ) → i < length l → escapedAll (drop i l) ≡ escaped (getD l i 0) ++ escapedAll (drop (i + 1) l)
 unfolding escapedAll
 escaped-from l i h = rw (add-one, drop-cons l i 0 h)
 
+-- nothing is left
 pub escaped-end : (l : List ℕ) (i : ℕ) → length l ≤ i → escapedAll (drop i l) ≡ []
 unfolding escapedAll
 escaped-end l i h = rw (drop-of-length-le l h)
 
+-- at most 6 bytes for each
 pub all-short : (l : List ℕ) → length (escapedAll l) ≤ 6 * length l
 unfolding escapedAll
 all-short [] = omega arith
 all-short (b ∷ l) = rw length-append (omega (arith, escaped-short b, all-short l))
 
+-- and the two quotes
 pub quoted-short : (l : List ℕ) → length (quoted l) ≤ 6 * length l + 2
 quoted-short l = rw length-append (omega (arith, all-short l))
 
 -- ---- bytes of 128 or more
 
 module _ (l : List ℕ) (i : ℕ) where
+  -- nothing is left
   pub high-end : length l ≤ i → hasHigh (drop i l) ≡ false
   unfolding hasHigh
   high-end h = rw (drop-of-length-le l h)
 
   module _ (h : i < length l) where
+    -- such a byte
     pub high-here : 128 ≤ getD l i 0 → hasHigh (drop i l) ≡ true
     unfolding hasHigh
     high-here k = rw (drop-cons l i 0 h, le-leb 128 (getD l i 0) k)
 
+    -- any other byte: the rest decides
     pub low-here : getD l i 0 < 128 → hasHigh (drop i l) ≡ hasHigh (drop (i + 1) l)
     unfolding hasHigh
     low-here k = rw (drop-cons l i 0 h, lt-leb 128 (getD l i 0) k, add-one i)

@@ -19,18 +19,22 @@ use Rattle.display.proofs.Decimal.{decimal-short}
 use Rattle.display.proofs.Quoting.{quoted-short}
 
 module _ (stored : List ℕ) (w : ℕ) where
+  -- an Int
   pub shown-int : kindOf w ≡ 1 → display (valueOf stored w) ≡ decimal (toZ w32 (w % 2 ^ 32))
   unfolding display toValue
   shown-int e = rw (ref-int w e)
 
+  -- a text
   pub shown-text : kindOf w ≡ 2 → display (valueOf stored w) ≡ quoted (piece (startOf w) (lengthOf w) stored)
   unfolding display toValue
   shown-text e = rw (ref-str w e)
 
+  -- Binary
   pub shown-binary : kindOf w ≡ 3 → display (valueOf stored w) ≡ 66 ∷ 73 ∷ 78 ∷ 65 ∷ 82 ∷ 89 ∷ 95 ∷ 83 ∷ 84 ∷ 82 ∷ 69 ∷ 65 ∷ 77 ∷ []
   unfolding display toValue
   shown-binary e = rw (ref-binary w e)
 
+  -- any other word is Null's
   pub shown-null : (kindOf w ≡ 1 → ⊥) → (kindOf w ≡ 2 → ⊥) → (kindOf w ≡ 3 → ⊥) → display (valueOf stored w) ≡ 78 ∷ 85 ∷ 76 ∷ 76 ∷ []
   unfolding display toValue
   shown-null i s b = rw (ref-null w i s b)

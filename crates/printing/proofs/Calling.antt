@@ -48,6 +48,7 @@ module _ (b text : List ℕ) (used : ℕ) where
           subst (PreparedIs b (take used text) (length text) used nodes) (sym e) (rw (h, f))
 
       module _ (n : ℕ) (e : x ≡ Table n) where
+        -- the scan's answer, as the table that it made
         table : ScanIs used b nodes (Table n) (parsed Named used b)
         table = subst (λ y. ScanIs used b nodes y (parsed Named used b)) e s
 
@@ -95,6 +96,7 @@ pub record Ready (b text : List ℕ) (used : ℕ) (nodes : List ℕ) (n : ℕ) :
   pub before : beforeStop b (take used text) (length text) used ≡ never
   pub scanned : ScanIs used b nodes (Table n) (parsed Named used b)
 
+-- what `prepare` answered, as the table that it made
 pub ready : (b text : List ℕ) (used : ℕ) (nodes : List ℕ) (n : ℕ) (x : Scanned) → length nodes ≡ 64 → PreparedIs b (take used text) (length text) used nodes x → x ≡ Table n
     → Ready b text used nodes n
 ready b text used nodes n x l p e =
@@ -127,6 +129,7 @@ module _ {b text : List ℕ} {used : ℕ} {nodes : List ℕ} {n : ℕ} (R : Read
     room = omega (arith, R .scanned .3, R .scanned .4);
   }
 
+  -- as the walk's contract has it
   pub asks : (t : Tree ℕ) × PrintAsks (take used text) nodes (n - 1) 16 0 t
   asks = (t, tree-asks)
 

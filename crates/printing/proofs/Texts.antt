@@ -83,6 +83,7 @@ record Next (stored b : List ℕ) (at : ℕ) (s : List (Tree ℕ)) (f : ℕ) (t 
   pub went : Went Named (length stored) b at (getD b at 0) s after (at + 1 + bodyOf (getD b at 0))
   pub later : parse Named (length stored) b fewer (at + 1 + bodyOf (getD b at 0)) after ≡ tree t
 
+-- a node of what reads as a tree goes on
 next : (stored b : List ℕ) (at : ℕ) (s : List (Tree ℕ)) (f : ℕ) (t : Tree ℕ) → at < length b → parse Named (length stored) b f at s ≡ tree t → Next stored b at s f t
 next stored b at s zero t h e = no-tree 2 at t (sym (parse-full Named (length stored) b at s h) ∙ e)
 next stored b at s (suc f) t h e = through (node Named (length stored) b at s) refl (sym (parse-more Named (length stored) b f at s h) ∙ e)
@@ -111,6 +112,7 @@ module _ {stored b : List ℕ} {at : ℕ} (L : Left stored b at) where
       ended (suc f) = rw (le-ltb at (length b) h)
 
   module _ (h : at < length b) where
+    -- the node at the offset
     here : Next stored b at (L .stack) (L .fuel) (L .whole)
     here = next stored b at (L .stack) (L .fuel) (L .whole) h (L .reads)
 

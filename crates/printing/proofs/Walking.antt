@@ -7,7 +7,7 @@ use native.Mathlib.Omega.{arith}
 use lib.ListN.{length, getD, length-append}
 use lib.Dec.{ltb}
 use Rattle.puts.specs.Put.{Puts}
-use Rattle.puts.proofs.Putting.{puts-then}
+use Rattle.puts.proofs.Putting.{puts-then, either}
 use Rattle.conditions.specs.Ast.{Tree, leaf, unary, binary, mapTree, size, height}
 use Rattle.conditions.specs.Table.{nodeOf, leafOf}
 use Rattle.conditions.specs.declared.Node.the-variants.{Leaf, One, Two}
@@ -29,11 +29,6 @@ in-parentheses false s = append-nil s
 around : (t : Bool) (s : List ℕ) → length (parenthesised t s) ≤ length s + 2
 around true s = rw length-append (omega arith)
 around false s = omega arith
-
--- at most one byte
-at-most : (t : Bool) (x : ℕ) → length (cond t (x ∷ []) []) ≤ 1
-at-most true x = omega arith
-at-most false x = omega arith
 
 -- at most 400,000 bytes a node
 pub printed-short : (stored : List ℕ) (asked : ℕ) (t : Tree ℕ) → length (printed asked (mapTree (leafOf stored) t)) ≤ 400000 * size t
@@ -148,6 +143,7 @@ module _ {stored nodes : List ℕ} {k depth at : ℕ} {t : Tree ℕ} (A : PrintA
         room = omega (arith, one-size, A .room, p .place, prefix-short op);
       }
 
+      -- as the contract has it
       pub one-asks : (s : Tree ℕ) × PrintAsks stored nodes (k - 1) (depth - 1) next s
       one-asks = (only, only-asks)
 
@@ -194,8 +190,9 @@ module _ {stored nodes : List ℕ} {k depth at : ℕ} {t : Tree ℕ} (A : PrintA
 
     -- a parenthesis may stand before the left operand
     module _ (test : Bool) {out : List ℕ} {from : ℕ} {out₁ : List ℕ} (p : Puts out at (cond test (40 ∷ []) []) from out₁) where
+      -- at most one byte further
       from-near : from ≤ at + 1
-      from-near = omega (arith, p .place, at-most test 40)
+      from-near = omega (arith, p .place, either test (40 ∷ []) [] 1 (omega arith) (omega arith))
 
       -- what the left operand asks
       left-asked : PrintAsks stored nodes l (depth - 1) from left
@@ -206,12 +203,14 @@ module _ {stored nodes : List ℕ} {k depth at : ℕ} {t : Tree ℕ} (A : PrintA
         room = omega (arith, two-size, A .room, from-near);
       }
 
+      -- as the contract has it
       pub left-asks : (s : Tree ℕ) × PrintAsks stored nodes l (depth - 1) from s
       left-asks = (left, left-asked)
 
       -- the left operand is put
       module _ (own : ℕ) {middle : ℕ} {out₂ : List ℕ}
           (f : (s : Tree ℕ) → PrintAsks stored nodes l (depth - 1) from s → Puts out₁ from (text own s) middle out₂) where
+        -- the place after the left operand
         middle-near : middle ≤ at + 1 + 400000 * size left
         middle-near = omega (arith, from-near, f left left-asked .place, printed-short stored own left)
 
@@ -220,6 +219,7 @@ module _ {stored nodes : List ℕ} {k depth at : ℕ} {t : Tree ℕ} (A : PrintA
         sign-room = omega (arith, A .room, two-size, middle-near)
 
         module _ {next : ℕ} {out₃ : List ℕ} (s : Puts out₂ middle (spaced op) next out₃) where
+          -- the place after the sign
           next-near : next ≤ at + 6 + 400000 * size left
           next-near = omega (arith, middle-near, s .place, spaced-short op)
 
@@ -232,6 +232,7 @@ module _ {stored nodes : List ℕ} {k depth at : ℕ} {t : Tree ℕ} (A : PrintA
             room = omega (arith, two-size, A .room, next-near);
           }
 
+          -- as the contract has it
           pub right-asks : (s : Tree ℕ) × PrintAsks stored nodes (k - 1) (depth - 1) next s
           right-asks = (right, right-asked)
 

@@ -1,5 +1,6 @@
 -- Laws of bytes put one after another. Assumes nothing.
 use mathlib.Core.Path.{_≡_, refl, sym, ap, _∙_}
+use mathlib.Core.Bool.{Bool, true, false, cond}
 use mathlib.Core.List.{List, [], _∷_, _++_}
 use Prim.Native.Nat.{ℕ, suc, _+_, _≤_, _<_}
 use native.Mathlib.Nat.{add-zero, add-suc, suc-add}
@@ -41,11 +42,12 @@ pub puts-none : (l : List ℕ) (at : ℕ) → Puts l at [] at l
 unfolding put
 puts-none l at = record { place = sym (add-zero at); list = refl }
 
--- one byte, with room and without
+-- one byte
 pub puts-inside : (l : List ℕ) (at b : ℕ) → Puts l at (b ∷ []) (at + 1) (set l at b)
 unfolding put
 puts-inside l at b = record { place = refl; list = refl }
 
+-- a byte without room
 pub puts-beyond : (l : List ℕ) (at b : ℕ) → length l ≤ at → Puts l at (b ∷ []) (at + 1) l
 unfolding put
 puts-beyond l at b h = record { place = refl; list = sym (set-out l at b h) }
@@ -68,10 +70,12 @@ pub record Partway (l : List ℕ) (at : ℕ) (whole : List ℕ) (e : List ℕ) (
   pub place : p + length rest ≡ at + length whole
   pub list : put e p rest ≡ put l at whole
 
+-- nothing was put yet
 pub partway-start : (l : List ℕ) (at : ℕ) (whole : List ℕ) → Partway l at whole l at whole
 partway-start l at whole = record { place = refl; list = refl }
 
 module _ {l : List ℕ} {at : ℕ} {whole e : List ℕ} {p : ℕ} {rest : List ℕ} (h : Partway l at whole e p rest) where
+  -- a part of the rest was put
   pub partway-turn : {s : List ℕ} {q : ℕ} {f : List ℕ} (t : List ℕ) → rest ≡ s ++ t → Puts e p s q f → Partway l at whole f q t
   partway-turn {s} t k w =
       record {
@@ -79,13 +83,20 @@ module _ {l : List ℕ} {at : ℕ} {whole e : List ℕ} {p : ℕ} {rest : List �
         list = rw (w .list, w .place) (sym (put-append e p s t) ∙ ap (put e p) (sym k) ∙ h .list);
       }
 
+  -- all was put
   pub partway-end : rest ≡ [] → Puts l at whole p e
   unfolding put
   partway-end k = record { place = omega (arith, h .place, ap length k); list = sym (ap (put e p) k) ∙ h .list }
 
+  -- the length stays on the way too
   pub partway-length : length e ≡ length l
   partway-length = sym (length-put e p rest) ∙ ap length (h .list) ∙ length-put l at whole
 
 -- what is left of a list from an index on: its element there, and the rest
 pub split-at : (l : List ℕ) (i : ℕ) → i < length l → drop i l ≡ (getD l i 0 ∷ []) ++ drop (i + 1) l
 split-at l i h = rw (add-one, drop-cons l i 0 h)
+
+-- of two lists that are short, either is
+pub either : (t : Bool) (a b : List ℕ) (n : ℕ) → length a ≤ n → length b ≤ n → length (cond t a b) ≤ n
+either true a b n h k = h
+either false a b n h k = k

@@ -5,12 +5,8 @@ use Prim.Native.Nat.{ℕ, _≤_}
 use native.Mathlib.Omega.{arith}
 use lib.ListN.{length, length-append}
 use lib.Dec.{ltb, eqb}
+use Rattle.puts.proofs.Putting.{either}
 use Rattle.signs.specs.Sign.{precedence, sign, spaced, prefix}
-
--- of two lists that are short, either is
-either : (t : Bool) (a b : List ℕ) (n : ℕ) → length a ≤ n → length b ≤ n → length (cond t a b) ≤ n
-either true a b n h k = h
-either false a b n h k = k
 
 -- at most 3 bytes
 sign-short : (op : ℕ) → length (sign op) ≤ 3
