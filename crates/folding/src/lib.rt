@@ -117,13 +117,12 @@ fn fold_node(
     depth: usize,
     at: usize,
     text: &mut [u8],
-    used: usize,
     top: usize,
     out: &mut [u8],
     end: usize,
 ) -> Part
-    requires { ⌜ ((t : Tree ℕ) × FoldAsks rules used top depth k at end (now nodes) (now text) (now out) t) ⌝ }
-    ensures { λ r. ⌜ ((t : Tree ℕ) → FoldAsks rules used top depth k at end (now (nodes .entry)) (now (text .entry)) (now (out .entry)) t →
+    requires { ⌜ ((used : ℕ) × (t : Tree ℕ) × FoldAsks rules used top depth k at end (now nodes) (now text) (now out) t) ⌝ }
+    ensures { λ r. ⌜ ((used : ℕ) (t : Tree ℕ) → FoldAsks rules used top depth k at end (now (nodes .entry)) (now (text .entry)) (now (out .entry)) t →
         Gives (take end (now (out .entry))) (at + width t) top (now (text .entry)) (now (text .exit)) (now (out .exit)) r (fold rules at t (take top (now (text .entry))))) ⌝ }
 {
     match conditions::node_of(nodes[k]) {
@@ -132,40 +131,18 @@ fn fold_node(
             Part::Folded(word, after, top, at + (after - end))
         }
         Node::One(op) => {
-            let a = fold_node(
-                rules,
-                nodes,
-                k - 1,
-                depth - 1,
-                at,
-                text,
-                used,
-                top,
-                out,
-                end,
-            );
+            let a = fold_node(rules, nodes, k - 1, depth - 1, at, text, top, out, end);
             let Part::Folded(word, after, t, place) = a else {
                 return a;
             };
             fold_one(rules, op, word, t, place, out, end, after)
         }
         Node::Two(op, l) => {
-            let a = fold_node(rules, nodes, l, depth - 1, at, text, used, top, out, end);
-            let Part::Folded(left, middle, t, next) = a else {
+            let a = fold_node(rules, nodes, l, depth - 1, at, text, top, out, end);
+            let Part::Folded(left, mid, t, next) = a else {
                 return a;
             };
-            let b = fold_node(
-                rules,
-                nodes,
-                k - 1,
-                depth - 1,
-                next,
-                text,
-                used,
-                t,
-                out,
-                middle,
-            );
+            let b = fold_node(rules, nodes, k - 1, depth - 1, next, text, t, out, mid);
             let Part::Folded(right, after, u, place) = b else {
                 return b;
             };
@@ -207,7 +184,6 @@ pub fn fold(condition: &[u8], text: &mut [u8], used: usize, out: &mut [u8]) -> S
                 16,
                 0,
                 text,
-                used,
                 used,
                 &mut space,
                 0,

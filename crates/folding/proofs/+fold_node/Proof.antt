@@ -49,10 +49,10 @@ abbrev rs : ℕ → fold-node-lts.Claims
 rs t = (node-of-reads.Asked, node-of-reads.Learnt, write-leaf-reads.Asked, write-leaf-reads.Learnt, fold-node-below t, fold-node.Post, fold-one-reads.Asked, fold-one-reads.Learnt, fold-two-reads.Asked, fold-two-reads.Learnt)
 
 fold-node-mul-node-of : (t : ℕ) → fold-node-lts.Need-mul-node-of (rs t) (fold-node-at t) fold-node.Post
-fold-node-mul-node-of t c = scaled-fits _ _ 8 (in-table _ _ _ _ _ _ _ _ _ _ (c .before .before .before .pre .1 .0) (c .before .before .before .pre .1 .1)) (c .before .before .before .good .1 .0 .1)
+fold-node-mul-node-of t c = scaled-fits _ _ 8 (in-table _ _ _ _ _ _ _ _ _ _ (c .before .before .before .pre .1 .1) (c .before .before .before .pre .1 .2)) (c .before .before .before .good .1 .0 .1)
 
 fold-node-shared-slice-read-node-of : (t : ℕ) → fold-node-lts.Need-shared-slice-read-node-of (rs t) (fold-node-at t) fold-node.Post
-fold-node-shared-slice-read-node-of t c = in-table _ _ _ _ _ _ _ _ _ _ (c .before .before .before .before .pre .1 .0) (c .before .before .before .before .pre .1 .1)
+fold-node-shared-slice-read-node-of t c = in-table _ _ _ _ _ _ _ _ _ _ (c .before .before .before .before .pre .1 .1) (c .before .before .before .before .pre .1 .2)
 
 fold-node-node-of-requires : (t : ℕ) → fold-node-lts.Need-node-of-requires (rs t) (fold-node-at t) fold-node.Post
 fold-node-node-of-requires t c κs = search needs
@@ -61,25 +61,25 @@ fold-node-enum-known-word : (t : ℕ) → fold-node-lts.Need-enum-known-word (rs
 fold-node-enum-known-word t c = search needs
 
 fold-node-write-leaf-requires : (t : ℕ) → fold-node-lts.Need-write-leaf-requires (rs t) (fold-node-at t) fold-node.Post
-fold-node-write-leaf-requires t c κs = leaf-space _ _ _ _ _ _ _ _ _ _ (c .before .before .before .before .before .before .before .before .before .pre .1 .0) (c .before .before .before .before .before .before .before .before .before .pre .1 .1) _ (sym (c .before .before .before .before .node-of .ensures) ∙ c .before .before .word .given .1)
+fold-node-write-leaf-requires t c κs = leaf-space _ _ _ _ _ _ _ _ _ _ (c .before .before .before .before .before .before .before .before .before .pre .1 .1) (c .before .before .before .before .before .before .before .before .before .pre .1 .2) _ (sym (c .before .before .before .before .node-of .ensures) ∙ c .before .before .word .given .1)
 
-fold-node-sub-t38 : (t : ℕ) → fold-node-lts.Need-sub-t38 (rs t) (fold-node-at t) fold-node.Post
-fold-node-sub-t38 t c = omega (arith, c .before .before .write-leaf .ensures .place)
+fold-node-sub-t37 : (t : ℕ) → fold-node-lts.Need-sub-t37 (rs t) (fold-node-at t) fold-node.Post
+fold-node-sub-t37 t c = omega (arith, c .before .before .write-leaf .ensures .place)
 
-fold-node-add-t39 : (t : ℕ) → fold-node-lts.Need-add-t39 (rs t) (fold-node-at t) fold-node.Post
-fold-node-add-t39 t c = omega (arith, leaf-early _ _ _ _ _ _ _ _ _ _ (c .before .before .before .before .before .before .before .before .before .before .before .before .pre .1 .0) (c .before .before .before .before .before .before .before .before .before .before .before .before .pre .1 .1) _ (sym (c .before .before .before .before .before .before .before .node-of .ensures) ∙ c .before .before .before .before .before .word .given .1) _ (c .before .before .write-leaf .ensures .place))
+fold-node-add-t38 : (t : ℕ) → fold-node-lts.Need-add-t38 (rs t) (fold-node-at t) fold-node.Post
+fold-node-add-t38 t c = omega (arith, leaf-early _ _ _ _ _ _ _ _ _ _ (c .before .before .before .before .before .before .before .before .before .before .before .before .pre .1 .1) (c .before .before .before .before .before .before .before .before .before .before .before .before .pre .1 .2) _ (sym (c .before .before .before .before .before .before .before .node-of .ensures) ∙ c .before .before .before .before .before .word .given .1) _ (c .before .before .write-leaf .ensures .place))
 
 fold-node-enum-known-op : (t : ℕ) → fold-node-lts.Need-enum-known-op (rs t) (fold-node-at t) fold-node.Post
 fold-node-enum-known-op t c = search needs
 
 fold-node-sub-fold-node : (t : ℕ) → fold-node-lts.Need-sub-fold-node (rs t) (fold-node-at t) fold-node.Post
-fold-node-sub-fold-node t c = one-below _ _ _ _ _ _ _ _ _ _ (c .before .before .before .before .before .before .before .before .pre .1 .0) (c .before .before .before .before .before .before .before .before .pre .1 .1) _ (sym (c .before .before .before .node-of .ensures) ∙ c .before .op .given .1)
+fold-node-sub-fold-node t c = one-below _ _ _ _ _ _ _ _ _ _ (c .before .before .before .before .before .before .before .before .pre .1 .1) (c .before .before .before .before .before .before .before .before .pre .1 .2) _ (sym (c .before .before .before .node-of .ensures) ∙ c .before .op .given .1)
 
 fold-node-sub-fold-node-2 : (t : ℕ) → fold-node-lts.Need-sub-fold-node-2 (rs t) (fold-node-at t) fold-node.Post
-fold-node-sub-fold-node-2 t c = one-depth _ _ _ _ _ _ _ _ _ _ (c .before .before .before .before .before .before .before .before .pre .1 .0) (c .before .before .before .before .before .before .before .before .pre .1 .1) _ (sym (c .before .before .before .node-of .ensures) ∙ c .before .op .given .1)
+fold-node-sub-fold-node-2 t c = one-depth _ _ _ _ _ _ _ _ _ _ (c .before .before .before .before .before .before .before .before .pre .1 .1) (c .before .before .before .before .before .before .before .before .pre .1 .2) _ (sym (c .before .before .before .node-of .ensures) ∙ c .before .op .given .1)
 
 fold-node-fold-node-requires : (t : ℕ) → fold-node-lts.Need-fold-node-requires (rs t) (fold-node-at t) fold-node.Post
-fold-node-fold-node-requires t c κs = (omega (arith, c .before .before .before .before .before .before .before .before .before .before .pre .0, one-depth _ _ _ _ _ _ _ _ _ _ (c .before .before .before .before .before .before .before .before .before .before .pre .1 .0) (c .before .before .before .before .before .before .before .before .before .before .pre .1 .1) _ (sym (c .before .before .before .before .before .node-of .ensures) ∙ c .before .before .before .op .given .1)), (_, one-asks _ _ _ _ _ _ _ _ _ _ (c .before .before .before .before .before .before .before .before .before .before .pre .1 .0) (c .before .before .before .before .before .before .before .before .before .before .pre .1 .1) _ (sym (c .before .before .before .before .before .node-of .ensures) ∙ c .before .before .before .op .given .1)))
+fold-node-fold-node-requires t c κs = (omega (arith, c .before .before .before .before .before .before .before .before .before .before .pre .0, one-depth _ _ _ _ _ _ _ _ _ _ (c .before .before .before .before .before .before .before .before .before .before .pre .1 .1) (c .before .before .before .before .before .before .before .before .before .before .pre .1 .2) _ (sym (c .before .before .before .before .before .node-of .ensures) ∙ c .before .before .before .op .given .1)), (_, _, one-asks _ _ _ _ _ _ _ _ _ _ (c .before .before .before .before .before .before .before .before .before .before .pre .1 .1) (c .before .before .before .before .before .before .before .before .before .before .pre .1 .2) _ (sym (c .before .before .before .before .before .node-of .ensures) ∙ c .before .before .before .op .given .1)))
 
 fold-node-enum-known-a : (t : ℕ) → fold-node-lts.Need-enum-known-a (rs t) (fold-node-at t) fold-node.Post
 fold-node-enum-known-a t c = search needs
@@ -94,19 +94,19 @@ fold-node-same-length-2 : (t : ℕ) → fold-node-lts.Need-same-length-2 (rs t) 
 fold-node-same-length-2 t c = search needs
 
 fold-node-returns : (t : ℕ) → fold-node-lts.Need-returns (rs t) (fold-node-at t) fold-node.Post
-fold-node-returns t c = λ t A. one-refused _ _ _ _ _ _ _ _ _ _ t A _ (sym (c .before .before .before .before .before .before .before .before .before .before .before .before .node-of .ensures) ∙ c .before .before .before .before .before .before .before .before .before .before .op .given .1) _ _ _ (c .before .before .before .before .before .before .fold-node .ensures _ (one-asks _ _ _ _ _ _ _ _ _ _ t A _ (sym (c .before .before .before .before .before .before .before .before .before .before .before .before .node-of .ensures) ∙ c .before .before .before .before .before .before .before .before .before .before .op .given .1))) _ (c .enum-told .given .1)
+fold-node-returns t c = λ v t A. one-refused _ _ _ _ _ _ _ _ _ _ t A _ (sym (c .before .before .before .before .before .before .before .before .before .before .before .before .node-of .ensures) ∙ c .before .before .before .before .before .before .before .before .before .before .op .given .1) _ _ _ (c .before .before .before .before .before .before .fold-node .ensures _ _ (one-asks _ _ _ _ _ _ _ _ _ _ t A _ (sym (c .before .before .before .before .before .before .before .before .before .before .before .before .node-of .ensures) ∙ c .before .before .before .before .before .before .before .before .before .before .op .given .1))) _ (c .enum-told .given .1)
 
 fold-node-fold-one-requires : (t : ℕ) → fold-node-lts.Need-fold-one-requires (rs t) (fold-node-at t) fold-node.Post
-fold-node-fold-one-requires t c κs = one-requires _ _ _ _ _ _ _ _ _ _ (c .before .before .before .before .before .before .before .before .before .before .before .before .before .before .before .before .before .before .before .pre .1 .0) (c .before .before .before .before .before .before .before .before .before .before .before .before .before .before .before .before .before .before .before .pre .1 .1) _ (sym (c .before .before .before .before .before .before .before .before .before .before .before .before .before .before .node-of .ensures) ∙ c .before .before .before .before .before .before .before .before .before .before .before .before .op .given .1) _ _ _ (c .before .before .before .before .before .before .before .before .fold-node .ensures _ (one-asks _ _ _ _ _ _ _ _ _ _ (c .before .before .before .before .before .before .before .before .before .before .before .before .before .before .before .before .before .before .before .pre .1 .0) (c .before .before .before .before .before .before .before .before .before .before .before .before .before .before .before .before .before .before .before .pre .1 .1) _ (sym (c .before .before .before .before .before .before .before .before .before .before .before .before .before .before .node-of .ensures) ∙ c .before .before .before .before .before .before .before .before .before .before .before .before .op .given .1))) _ _ _ _ (c .before .before .a .given .1) (c .before .before .before .before .before .before .before .before .fold-node .kept .1 .1 .1 .1 .1 .1 .1 .1 .0)
+fold-node-fold-one-requires t c κs = one-requires _ _ _ _ _ _ _ _ _ _ (c .before .before .before .before .before .before .before .before .before .before .before .before .before .before .before .before .before .before .before .pre .1 .1) (c .before .before .before .before .before .before .before .before .before .before .before .before .before .before .before .before .before .before .before .pre .1 .2) _ (sym (c .before .before .before .before .before .before .before .before .before .before .before .before .before .before .node-of .ensures) ∙ c .before .before .before .before .before .before .before .before .before .before .before .before .op .given .1) _ _ _ (c .before .before .before .before .before .before .before .before .fold-node .ensures _ _ (one-asks _ _ _ _ _ _ _ _ _ _ (c .before .before .before .before .before .before .before .before .before .before .before .before .before .before .before .before .before .before .before .pre .1 .1) (c .before .before .before .before .before .before .before .before .before .before .before .before .before .before .before .before .before .before .before .pre .1 .2) _ (sym (c .before .before .before .before .before .before .before .before .before .before .before .before .before .before .node-of .ensures) ∙ c .before .before .before .before .before .before .before .before .before .before .before .before .op .given .1))) _ _ _ _ (c .before .before .a .given .1) (c .before .before .before .before .before .before .before .before .fold-node .kept .1 .1 .1 .1 .1 .1 .1 .0)
 
 fold-node-enum-known-op-2 : (t : ℕ) → fold-node-lts.Need-enum-known-op-2 (rs t) (fold-node-at t) fold-node.Post
 fold-node-enum-known-op-2 t c = search needs
 
 fold-node-sub-fold-node-3 : (t : ℕ) → fold-node-lts.Need-sub-fold-node-3 (rs t) (fold-node-at t) fold-node.Post
-fold-node-sub-fold-node-3 t c = two-depth _ _ _ _ _ _ _ _ _ _ (c .before .before .before .before .before .before .before .before .pre .1 .0) (c .before .before .before .before .before .before .before .before .pre .1 .1) _ _ (sym (c .before .before .before .node-of .ensures) ∙ c .before .op2 .given .1)
+fold-node-sub-fold-node-3 t c = two-depth _ _ _ _ _ _ _ _ _ _ (c .before .before .before .before .before .before .before .before .pre .1 .1) (c .before .before .before .before .before .before .before .before .pre .1 .2) _ _ (sym (c .before .before .before .node-of .ensures) ∙ c .before .op2 .given .1)
 
 fold-node-fold-node-requires-2 : (t : ℕ) → fold-node-lts.Need-fold-node-requires-2 (rs t) (fold-node-at t) fold-node.Post
-fold-node-fold-node-requires-2 t c κs = (omega (arith, c .before .before .before .before .before .before .before .before .before .before .pre .0, two-depth _ _ _ _ _ _ _ _ _ _ (c .before .before .before .before .before .before .before .before .before .before .pre .1 .0) (c .before .before .before .before .before .before .before .before .before .before .pre .1 .1) _ _ (sym (c .before .before .before .before .before .node-of .ensures) ∙ c .before .before .before .op2 .given .1)), (_, left-asks _ _ _ _ _ _ _ _ _ _ (c .before .before .before .before .before .before .before .before .before .before .pre .1 .0) (c .before .before .before .before .before .before .before .before .before .before .pre .1 .1) _ _ (sym (c .before .before .before .before .before .node-of .ensures) ∙ c .before .before .before .op2 .given .1)))
+fold-node-fold-node-requires-2 t c κs = (omega (arith, c .before .before .before .before .before .before .before .before .before .before .pre .0, two-depth _ _ _ _ _ _ _ _ _ _ (c .before .before .before .before .before .before .before .before .before .before .pre .1 .1) (c .before .before .before .before .before .before .before .before .before .before .pre .1 .2) _ _ (sym (c .before .before .before .before .before .node-of .ensures) ∙ c .before .before .before .op2 .given .1)), (_, _, left-asks _ _ _ _ _ _ _ _ _ _ (c .before .before .before .before .before .before .before .before .before .before .pre .1 .1) (c .before .before .before .before .before .before .before .before .before .before .pre .1 .2) _ _ (sym (c .before .before .before .before .before .node-of .ensures) ∙ c .before .before .before .op2 .given .1)))
 
 fold-node-enum-known-a-2 : (t : ℕ) → fold-node-lts.Need-enum-known-a-2 (rs t) (fold-node-at t) fold-node.Post
 fold-node-enum-known-a-2 t c = search needs
@@ -121,16 +121,16 @@ fold-node-same-length-4 : (t : ℕ) → fold-node-lts.Need-same-length-4 (rs t) 
 fold-node-same-length-4 t c = search needs
 
 fold-node-returns-2 : (t : ℕ) → fold-node-lts.Need-returns-2 (rs t) (fold-node-at t) fold-node.Post
-fold-node-returns-2 t c = λ t A. left-refused _ _ _ _ _ _ _ _ _ _ t A _ _ (sym (c .before .before .before .before .before .before .before .before .before .before .before .before .node-of .ensures) ∙ c .before .before .before .before .before .before .before .before .before .before .op2 .given .1) _ _ _ (c .before .before .before .before .before .before .fold-node2 .ensures _ (left-asks _ _ _ _ _ _ _ _ _ _ t A _ _ (sym (c .before .before .before .before .before .before .before .before .before .before .before .before .node-of .ensures) ∙ c .before .before .before .before .before .before .before .before .before .before .op2 .given .1))) _ (c .enum-told2 .given .1)
+fold-node-returns-2 t c = λ v t A. left-refused _ _ _ _ _ _ _ _ _ _ t A _ _ (sym (c .before .before .before .before .before .before .before .before .before .before .before .before .node-of .ensures) ∙ c .before .before .before .before .before .before .before .before .before .before .op2 .given .1) _ _ _ (c .before .before .before .before .before .before .fold-node2 .ensures _ _ (left-asks _ _ _ _ _ _ _ _ _ _ t A _ _ (sym (c .before .before .before .before .before .before .before .before .before .before .before .before .node-of .ensures) ∙ c .before .before .before .before .before .before .before .before .before .before .op2 .given .1))) _ (c .enum-told2 .given .1)
 
 fold-node-sub-fold-node-4 : (t : ℕ) → fold-node-lts.Need-sub-fold-node-4 (rs t) (fold-node-at t) fold-node.Post
-fold-node-sub-fold-node-4 t c = two-below _ _ _ _ _ _ _ _ _ _ (c .before .before .before .before .before .before .before .before .before .before .before .before .before .before .before .before .before .before .pre .1 .0) (c .before .before .before .before .before .before .before .before .before .before .before .before .before .before .before .before .before .before .pre .1 .1) _ _ (sym (c .before .before .before .before .before .before .before .before .before .before .before .before .before .node-of .ensures) ∙ c .before .before .before .before .before .before .before .before .before .before .before .op2 .given .1)
+fold-node-sub-fold-node-4 t c = two-below _ _ _ _ _ _ _ _ _ _ (c .before .before .before .before .before .before .before .before .before .before .before .before .before .before .before .before .before .before .pre .1 .1) (c .before .before .before .before .before .before .before .before .before .before .before .before .before .before .before .before .before .before .pre .1 .2) _ _ (sym (c .before .before .before .before .before .before .before .before .before .before .before .before .before .node-of .ensures) ∙ c .before .before .before .before .before .before .before .before .before .before .before .op2 .given .1)
 
 fold-node-sub-fold-node-5 : (t : ℕ) → fold-node-lts.Need-sub-fold-node-5 (rs t) (fold-node-at t) fold-node.Post
-fold-node-sub-fold-node-5 t c = two-depth _ _ _ _ _ _ _ _ _ _ (c .before .before .before .before .before .before .before .before .before .before .before .before .before .before .before .before .before .before .pre .1 .0) (c .before .before .before .before .before .before .before .before .before .before .before .before .before .before .before .before .before .before .pre .1 .1) _ _ (sym (c .before .before .before .before .before .before .before .before .before .before .before .before .before .node-of .ensures) ∙ c .before .before .before .before .before .before .before .before .before .before .before .op2 .given .1)
+fold-node-sub-fold-node-5 t c = two-depth _ _ _ _ _ _ _ _ _ _ (c .before .before .before .before .before .before .before .before .before .before .before .before .before .before .before .before .before .before .pre .1 .1) (c .before .before .before .before .before .before .before .before .before .before .before .before .before .before .before .before .before .before .pre .1 .2) _ _ (sym (c .before .before .before .before .before .before .before .before .before .before .before .before .before .node-of .ensures) ∙ c .before .before .before .before .before .before .before .before .before .before .before .op2 .given .1)
 
 fold-node-fold-node-requires-3 : (t : ℕ) → fold-node-lts.Need-fold-node-requires-3 (rs t) (fold-node-at t) fold-node.Post
-fold-node-fold-node-requires-3 t c κs = (omega (arith, c .before .before .before .before .before .before .before .before .before .before .before .before .before .before .before .before .before .before .before .before .pre .0, two-depth _ _ _ _ _ _ _ _ _ _ (c .before .before .before .before .before .before .before .before .before .before .before .before .before .before .before .before .before .before .before .before .pre .1 .0) (c .before .before .before .before .before .before .before .before .before .before .before .before .before .before .before .before .before .before .before .before .pre .1 .1) _ _ (sym (c .before .before .before .before .before .before .before .before .before .before .before .before .before .before .before .node-of .ensures) ∙ c .before .before .before .before .before .before .before .before .before .before .before .before .before .op2 .given .1)), (_, right-asks _ _ _ _ _ _ _ _ _ _ (c .before .before .before .before .before .before .before .before .before .before .before .before .before .before .before .before .before .before .before .before .pre .1 .0) (c .before .before .before .before .before .before .before .before .before .before .before .before .before .before .before .before .before .before .before .before .pre .1 .1) _ _ (sym (c .before .before .before .before .before .before .before .before .before .before .before .before .before .before .before .node-of .ensures) ∙ c .before .before .before .before .before .before .before .before .before .before .before .before .before .op2 .given .1) _ _ _ (c .before .before .before .before .before .before .before .before .before .fold-node2 .ensures _ (left-asks _ _ _ _ _ _ _ _ _ _ (c .before .before .before .before .before .before .before .before .before .before .before .before .before .before .before .before .before .before .before .before .pre .1 .0) (c .before .before .before .before .before .before .before .before .before .before .before .before .before .before .before .before .before .before .before .before .pre .1 .1) _ _ (sym (c .before .before .before .before .before .before .before .before .before .before .before .before .before .before .before .node-of .ensures) ∙ c .before .before .before .before .before .before .before .before .before .before .before .before .before .op2 .given .1))) _ _ _ _ (c .before .before .before .a2 .given .1) (c .before .before .before .before .before .before .before .before .before .fold-node2 .kept .1 .1 .1 .1 .1 .1 .1 .1 .0) (c .before .before .before .before .before .before .before .before .before .fold-node2 .kept .1 .1 .1 .1 .1 .0)))
+fold-node-fold-node-requires-3 t c κs = (omega (arith, c .before .before .before .before .before .before .before .before .before .before .before .before .before .before .before .before .before .before .before .before .pre .0, two-depth _ _ _ _ _ _ _ _ _ _ (c .before .before .before .before .before .before .before .before .before .before .before .before .before .before .before .before .before .before .before .before .pre .1 .1) (c .before .before .before .before .before .before .before .before .before .before .before .before .before .before .before .before .before .before .before .before .pre .1 .2) _ _ (sym (c .before .before .before .before .before .before .before .before .before .before .before .before .before .before .before .node-of .ensures) ∙ c .before .before .before .before .before .before .before .before .before .before .before .before .before .op2 .given .1)), (_, _, right-asks _ _ _ _ _ _ _ _ _ _ (c .before .before .before .before .before .before .before .before .before .before .before .before .before .before .before .before .before .before .before .before .pre .1 .1) (c .before .before .before .before .before .before .before .before .before .before .before .before .before .before .before .before .before .before .before .before .pre .1 .2) _ _ (sym (c .before .before .before .before .before .before .before .before .before .before .before .before .before .before .before .node-of .ensures) ∙ c .before .before .before .before .before .before .before .before .before .before .before .before .before .op2 .given .1) _ _ _ (c .before .before .before .before .before .before .before .before .before .fold-node2 .ensures _ _ (left-asks _ _ _ _ _ _ _ _ _ _ (c .before .before .before .before .before .before .before .before .before .before .before .before .before .before .before .before .before .before .before .before .pre .1 .1) (c .before .before .before .before .before .before .before .before .before .before .before .before .before .before .before .before .before .before .before .before .pre .1 .2) _ _ (sym (c .before .before .before .before .before .before .before .before .before .before .before .before .before .before .before .node-of .ensures) ∙ c .before .before .before .before .before .before .before .before .before .before .before .before .before .op2 .given .1))) _ _ _ _ (c .before .before .before .a2 .given .1) (c .before .before .before .before .before .before .before .before .before .fold-node2 .kept .1 .1 .1 .1 .1 .1 .1 .0) (c .before .before .before .before .before .before .before .before .before .fold-node2 .kept .1 .1 .1 .1 .1 .0)))
 
 fold-node-enum-known-b : (t : ℕ) → fold-node-lts.Need-enum-known-b (rs t) (fold-node-at t) fold-node.Post
 fold-node-enum-known-b t c = search needs
@@ -145,16 +145,16 @@ fold-node-same-length-6 : (t : ℕ) → fold-node-lts.Need-same-length-6 (rs t) 
 fold-node-same-length-6 t c = search needs
 
 fold-node-returns-3 : (t : ℕ) → fold-node-lts.Need-returns-3 (rs t) (fold-node-at t) fold-node.Post
-fold-node-returns-3 t c = λ t A. right-refused _ _ _ _ _ _ _ _ _ _ t A _ _ (sym (c .before .before .before .before .before .before .before .before .before .before .before .before .before .before .before .before .before .before .before .before .before .before .node-of .ensures) ∙ c .before .before .before .before .before .before .before .before .before .before .before .before .before .before .before .before .before .before .before .before .op2 .given .1) _ _ _ (c .before .before .before .before .before .before .before .before .before .before .before .before .before .before .before .before .fold-node2 .ensures _ (left-asks _ _ _ _ _ _ _ _ _ _ t A _ _ (sym (c .before .before .before .before .before .before .before .before .before .before .before .before .before .before .before .before .before .before .before .before .before .before .node-of .ensures) ∙ c .before .before .before .before .before .before .before .before .before .before .before .before .before .before .before .before .before .before .before .before .op2 .given .1))) _ _ _ _ (c .before .before .before .before .before .before .before .before .before .before .a2 .given .1) (c .before .before .before .before .before .before .before .before .before .before .before .before .before .before .before .before .fold-node2 .kept .1 .1 .1 .1 .1 .1 .1 .1 .0) (c .before .before .before .before .before .before .before .before .before .before .before .before .before .before .before .before .fold-node2 .kept .1 .1 .1 .1 .1 .0) _ _ _ (c .before .before .before .before .before .before .fold-node3 .ensures _ (right-asks _ _ _ _ _ _ _ _ _ _ t A _ _ (sym (c .before .before .before .before .before .before .before .before .before .before .before .before .before .before .before .before .before .before .before .before .before .before .node-of .ensures) ∙ c .before .before .before .before .before .before .before .before .before .before .before .before .before .before .before .before .before .before .before .before .op2 .given .1) _ _ _ (c .before .before .before .before .before .before .before .before .before .before .before .before .before .before .before .before .fold-node2 .ensures _ (left-asks _ _ _ _ _ _ _ _ _ _ t A _ _ (sym (c .before .before .before .before .before .before .before .before .before .before .before .before .before .before .before .before .before .before .before .before .before .before .node-of .ensures) ∙ c .before .before .before .before .before .before .before .before .before .before .before .before .before .before .before .before .before .before .before .before .op2 .given .1))) _ _ _ _ (c .before .before .before .before .before .before .before .before .before .before .a2 .given .1) (c .before .before .before .before .before .before .before .before .before .before .before .before .before .before .before .before .fold-node2 .kept .1 .1 .1 .1 .1 .1 .1 .1 .0) (c .before .before .before .before .before .before .before .before .before .before .before .before .before .before .before .before .fold-node2 .kept .1 .1 .1 .1 .1 .0))) _ (c .enum-told3 .given .1)
+fold-node-returns-3 t c = λ v t A. right-refused _ _ _ _ _ _ _ _ _ _ t A _ _ (sym (c .before .before .before .before .before .before .before .before .before .before .before .before .before .before .before .before .before .before .before .before .before .before .node-of .ensures) ∙ c .before .before .before .before .before .before .before .before .before .before .before .before .before .before .before .before .before .before .before .before .op2 .given .1) _ _ _ (c .before .before .before .before .before .before .before .before .before .before .before .before .before .before .before .before .fold-node2 .ensures _ _ (left-asks _ _ _ _ _ _ _ _ _ _ t A _ _ (sym (c .before .before .before .before .before .before .before .before .before .before .before .before .before .before .before .before .before .before .before .before .before .before .node-of .ensures) ∙ c .before .before .before .before .before .before .before .before .before .before .before .before .before .before .before .before .before .before .before .before .op2 .given .1))) _ _ _ _ (c .before .before .before .before .before .before .before .before .before .before .a2 .given .1) (c .before .before .before .before .before .before .before .before .before .before .before .before .before .before .before .before .fold-node2 .kept .1 .1 .1 .1 .1 .1 .1 .0) (c .before .before .before .before .before .before .before .before .before .before .before .before .before .before .before .before .fold-node2 .kept .1 .1 .1 .1 .1 .0) _ _ _ (c .before .before .before .before .before .before .fold-node3 .ensures _ _ (right-asks _ _ _ _ _ _ _ _ _ _ t A _ _ (sym (c .before .before .before .before .before .before .before .before .before .before .before .before .before .before .before .before .before .before .before .before .before .before .node-of .ensures) ∙ c .before .before .before .before .before .before .before .before .before .before .before .before .before .before .before .before .before .before .before .before .op2 .given .1) _ _ _ (c .before .before .before .before .before .before .before .before .before .before .before .before .before .before .before .before .fold-node2 .ensures _ _ (left-asks _ _ _ _ _ _ _ _ _ _ t A _ _ (sym (c .before .before .before .before .before .before .before .before .before .before .before .before .before .before .before .before .before .before .before .before .before .before .node-of .ensures) ∙ c .before .before .before .before .before .before .before .before .before .before .before .before .before .before .before .before .before .before .before .before .op2 .given .1))) _ _ _ _ (c .before .before .before .before .before .before .before .before .before .before .a2 .given .1) (c .before .before .before .before .before .before .before .before .before .before .before .before .before .before .before .before .fold-node2 .kept .1 .1 .1 .1 .1 .1 .1 .0) (c .before .before .before .before .before .before .before .before .before .before .before .before .before .before .before .before .fold-node2 .kept .1 .1 .1 .1 .1 .0))) _ (c .enum-told3 .given .1)
 
 fold-node-fold-two-requires : (t : ℕ) → fold-node-lts.Need-fold-two-requires (rs t) (fold-node-at t) fold-node.Post
-fold-node-fold-two-requires t c κs = two-asks _ _ _ _ _ _ _ _ _ _ (c .before .before .before .before .before .before .before .before .before .before .before .before .before .before .before .before .before .before .before .before .before .before .before .before .before .before .before .before .before .before .pre .1 .0) (c .before .before .before .before .before .before .before .before .before .before .before .before .before .before .before .before .before .before .before .before .before .before .before .before .before .before .before .before .before .before .pre .1 .1) _ _ (sym (c .before .before .before .before .before .before .before .before .before .before .before .before .before .before .before .before .before .before .before .before .before .before .before .before .before .node-of .ensures) ∙ c .before .before .before .before .before .before .before .before .before .before .before .before .before .before .before .before .before .before .before .before .before .before .before .op2 .given .1) _ _ _ (c .before .before .before .before .before .before .before .before .before .before .before .before .before .before .before .before .before .before .before .fold-node2 .ensures _ (left-asks _ _ _ _ _ _ _ _ _ _ (c .before .before .before .before .before .before .before .before .before .before .before .before .before .before .before .before .before .before .before .before .before .before .before .before .before .before .before .before .before .before .pre .1 .0) (c .before .before .before .before .before .before .before .before .before .before .before .before .before .before .before .before .before .before .before .before .before .before .before .before .before .before .before .before .before .before .pre .1 .1) _ _ (sym (c .before .before .before .before .before .before .before .before .before .before .before .before .before .before .before .before .before .before .before .before .before .before .before .before .before .node-of .ensures) ∙ c .before .before .before .before .before .before .before .before .before .before .before .before .before .before .before .before .before .before .before .before .before .before .before .op2 .given .1))) _ _ _ _ (c .before .before .before .before .before .before .before .before .before .before .before .before .before .a2 .given .1) (c .before .before .before .before .before .before .before .before .before .before .before .before .before .before .before .before .before .before .before .fold-node2 .kept .1 .1 .1 .1 .1 .1 .1 .1 .0) (c .before .before .before .before .before .before .before .before .before .before .before .before .before .before .before .before .before .before .before .fold-node2 .kept .1 .1 .1 .1 .1 .0) _ _ _ (c .before .before .before .before .before .before .before .before .before .fold-node3 .ensures _ (right-asks _ _ _ _ _ _ _ _ _ _ (c .before .before .before .before .before .before .before .before .before .before .before .before .before .before .before .before .before .before .before .before .before .before .before .before .before .before .before .before .before .before .pre .1 .0) (c .before .before .before .before .before .before .before .before .before .before .before .before .before .before .before .before .before .before .before .before .before .before .before .before .before .before .before .before .before .before .pre .1 .1) _ _ (sym (c .before .before .before .before .before .before .before .before .before .before .before .before .before .before .before .before .before .before .before .before .before .before .before .before .before .node-of .ensures) ∙ c .before .before .before .before .before .before .before .before .before .before .before .before .before .before .before .before .before .before .before .before .before .before .before .op2 .given .1) _ _ _ (c .before .before .before .before .before .before .before .before .before .before .before .before .before .before .before .before .before .before .before .fold-node2 .ensures _ (left-asks _ _ _ _ _ _ _ _ _ _ (c .before .before .before .before .before .before .before .before .before .before .before .before .before .before .before .before .before .before .before .before .before .before .before .before .before .before .before .before .before .before .pre .1 .0) (c .before .before .before .before .before .before .before .before .before .before .before .before .before .before .before .before .before .before .before .before .before .before .before .before .before .before .before .before .before .before .pre .1 .1) _ _ (sym (c .before .before .before .before .before .before .before .before .before .before .before .before .before .before .before .before .before .before .before .before .before .before .before .before .before .node-of .ensures) ∙ c .before .before .before .before .before .before .before .before .before .before .before .before .before .before .before .before .before .before .before .before .before .before .before .op2 .given .1))) _ _ _ _ (c .before .before .before .before .before .before .before .before .before .before .before .before .before .a2 .given .1) (c .before .before .before .before .before .before .before .before .before .before .before .before .before .before .before .before .before .before .before .fold-node2 .kept .1 .1 .1 .1 .1 .1 .1 .1 .0) (c .before .before .before .before .before .before .before .before .before .before .before .before .before .before .before .before .before .before .before .fold-node2 .kept .1 .1 .1 .1 .1 .0))) _ _ _ _ (c .before .before .before .b .given .1) (c .before .before .before .before .before .before .before .before .before .fold-node3 .kept .1 .1 .1 .1 .1 .1 .1 .1 .0) (c .before .before .before .before .before .before .before .before .before .fold-node3 .kept .1 .1 .1 .1 .1 .0)
+fold-node-fold-two-requires t c κs = two-asks _ _ _ _ _ _ _ _ _ _ (c .before .before .before .before .before .before .before .before .before .before .before .before .before .before .before .before .before .before .before .before .before .before .before .before .before .before .before .before .before .before .pre .1 .1) (c .before .before .before .before .before .before .before .before .before .before .before .before .before .before .before .before .before .before .before .before .before .before .before .before .before .before .before .before .before .before .pre .1 .2) _ _ (sym (c .before .before .before .before .before .before .before .before .before .before .before .before .before .before .before .before .before .before .before .before .before .before .before .before .before .node-of .ensures) ∙ c .before .before .before .before .before .before .before .before .before .before .before .before .before .before .before .before .before .before .before .before .before .before .before .op2 .given .1) _ _ _ (c .before .before .before .before .before .before .before .before .before .before .before .before .before .before .before .before .before .before .before .fold-node2 .ensures _ _ (left-asks _ _ _ _ _ _ _ _ _ _ (c .before .before .before .before .before .before .before .before .before .before .before .before .before .before .before .before .before .before .before .before .before .before .before .before .before .before .before .before .before .before .pre .1 .1) (c .before .before .before .before .before .before .before .before .before .before .before .before .before .before .before .before .before .before .before .before .before .before .before .before .before .before .before .before .before .before .pre .1 .2) _ _ (sym (c .before .before .before .before .before .before .before .before .before .before .before .before .before .before .before .before .before .before .before .before .before .before .before .before .before .node-of .ensures) ∙ c .before .before .before .before .before .before .before .before .before .before .before .before .before .before .before .before .before .before .before .before .before .before .before .op2 .given .1))) _ _ _ _ (c .before .before .before .before .before .before .before .before .before .before .before .before .before .a2 .given .1) (c .before .before .before .before .before .before .before .before .before .before .before .before .before .before .before .before .before .before .before .fold-node2 .kept .1 .1 .1 .1 .1 .1 .1 .0) (c .before .before .before .before .before .before .before .before .before .before .before .before .before .before .before .before .before .before .before .fold-node2 .kept .1 .1 .1 .1 .1 .0) _ _ _ (c .before .before .before .before .before .before .before .before .before .fold-node3 .ensures _ _ (right-asks _ _ _ _ _ _ _ _ _ _ (c .before .before .before .before .before .before .before .before .before .before .before .before .before .before .before .before .before .before .before .before .before .before .before .before .before .before .before .before .before .before .pre .1 .1) (c .before .before .before .before .before .before .before .before .before .before .before .before .before .before .before .before .before .before .before .before .before .before .before .before .before .before .before .before .before .before .pre .1 .2) _ _ (sym (c .before .before .before .before .before .before .before .before .before .before .before .before .before .before .before .before .before .before .before .before .before .before .before .before .before .node-of .ensures) ∙ c .before .before .before .before .before .before .before .before .before .before .before .before .before .before .before .before .before .before .before .before .before .before .before .op2 .given .1) _ _ _ (c .before .before .before .before .before .before .before .before .before .before .before .before .before .before .before .before .before .before .before .fold-node2 .ensures _ _ (left-asks _ _ _ _ _ _ _ _ _ _ (c .before .before .before .before .before .before .before .before .before .before .before .before .before .before .before .before .before .before .before .before .before .before .before .before .before .before .before .before .before .before .pre .1 .1) (c .before .before .before .before .before .before .before .before .before .before .before .before .before .before .before .before .before .before .before .before .before .before .before .before .before .before .before .before .before .before .pre .1 .2) _ _ (sym (c .before .before .before .before .before .before .before .before .before .before .before .before .before .before .before .before .before .before .before .before .before .before .before .before .before .node-of .ensures) ∙ c .before .before .before .before .before .before .before .before .before .before .before .before .before .before .before .before .before .before .before .before .before .before .before .op2 .given .1))) _ _ _ _ (c .before .before .before .before .before .before .before .before .before .before .before .before .before .a2 .given .1) (c .before .before .before .before .before .before .before .before .before .before .before .before .before .before .before .before .before .before .before .fold-node2 .kept .1 .1 .1 .1 .1 .1 .1 .0) (c .before .before .before .before .before .before .before .before .before .before .before .before .before .before .before .before .before .before .before .fold-node2 .kept .1 .1 .1 .1 .1 .0))) _ _ _ _ (c .before .before .before .b .given .1) (c .before .before .before .before .before .before .before .before .before .fold-node3 .kept .1 .1 .1 .1 .1 .1 .1 .0) (c .before .before .before .before .before .before .before .before .before .fold-node3 .kept .1 .1 .1 .1 .1 .0)
 
 fold-node-same-length-7 : (t : ℕ) → fold-node-lts.Need-same-length-7 (rs t) (fold-node-at t) fold-node.Post
 fold-node-same-length-7 t c = search needs
 
 fold-node-returns-4 : (t : ℕ) → fold-node-lts.Need-returns-4 (rs t) (fold-node-at t) fold-node.Post
-fold-node-returns-4 t c = λ t A. leaf-gives _ _ _ _ _ _ _ _ _ _ t A _ (sym (c .before .before .before .before .before .before .before .node-of .ensures) ∙ c .before .before .before .before .before .word .given .1) _ _ (c .before .before .write-leaf .ensures)
+fold-node-returns-4 t c = λ v t A. leaf-gives _ _ _ _ _ _ _ _ _ _ t A _ (sym (c .before .before .before .before .before .before .before .node-of .ensures) ∙ c .before .before .before .before .before .word .given .1) _ _ (c .before .before .write-leaf .ensures)
 
 fold-node-same-length-8 : (t : ℕ) → fold-node-lts.Need-same-length-8 (rs t) (fold-node-at t) fold-node.Post
 fold-node-same-length-8 t c = search needs
@@ -163,7 +163,7 @@ fold-node-same-length-9 : (t : ℕ) → fold-node-lts.Need-same-length-9 (rs t) 
 fold-node-same-length-9 t c = search needs
 
 fold-node-returns-5 : (t : ℕ) → fold-node-lts.Need-returns-5 (rs t) (fold-node-at t) fold-node.Post
-fold-node-returns-5 t c = λ t A. one-gives _ _ _ _ _ _ _ _ _ _ t A _ (sym (c .before .before .before .before .before .before .before .before .before .before .before .before .before .before .before .before .before .node-of .ensures) ∙ c .before .before .before .before .before .before .before .before .before .before .before .before .before .before .before .op .given .1) _ _ _ (c .before .before .before .before .before .before .before .before .before .before .before .fold-node .ensures _ (one-asks _ _ _ _ _ _ _ _ _ _ t A _ (sym (c .before .before .before .before .before .before .before .before .before .before .before .before .before .before .before .before .before .node-of .ensures) ∙ c .before .before .before .before .before .before .before .before .before .before .before .before .before .before .before .op .given .1))) _ _ _ _ (c .before .before .before .before .before .a .given .1) (c .before .before .before .before .before .before .before .before .before .before .before .fold-node .kept .1 .1 .1 .1 .1 .1 .1 .1 .0) _ _ (c .before .before .fold-one .ensures)
+fold-node-returns-5 t c = λ v t A. one-gives _ _ _ _ _ _ _ _ _ _ t A _ (sym (c .before .before .before .before .before .before .before .before .before .before .before .before .before .before .before .before .before .node-of .ensures) ∙ c .before .before .before .before .before .before .before .before .before .before .before .before .before .before .before .op .given .1) _ _ _ (c .before .before .before .before .before .before .before .before .before .before .before .fold-node .ensures _ _ (one-asks _ _ _ _ _ _ _ _ _ _ t A _ (sym (c .before .before .before .before .before .before .before .before .before .before .before .before .before .before .before .before .before .node-of .ensures) ∙ c .before .before .before .before .before .before .before .before .before .before .before .before .before .before .before .op .given .1))) _ _ _ _ (c .before .before .before .before .before .a .given .1) (c .before .before .before .before .before .before .before .before .before .before .before .fold-node .kept .1 .1 .1 .1 .1 .1 .1 .0) _ _ (c .before .before .fold-one .ensures)
 
 fold-node-same-length-10 : (t : ℕ) → fold-node-lts.Need-same-length-10 (rs t) (fold-node-at t) fold-node.Post
 fold-node-same-length-10 t c = search needs
@@ -172,7 +172,7 @@ fold-node-same-length-11 : (t : ℕ) → fold-node-lts.Need-same-length-11 (rs t
 fold-node-same-length-11 t c = search needs
 
 fold-node-returns-6 : (t : ℕ) → fold-node-lts.Need-returns-6 (rs t) (fold-node-at t) fold-node.Post
-fold-node-returns-6 t c = λ t A. two-gives _ _ _ _ _ _ _ _ _ _ t A _ _ (sym (c .before .before .before .before .before .before .before .before .before .before .before .before .before .before .before .before .before .before .before .before .before .before .before .before .before .before .before .before .before .before .node-of .ensures) ∙ c .before .before .before .before .before .before .before .before .before .before .before .before .before .before .before .before .before .before .before .before .before .before .before .before .before .before .before .before .op2 .given .1) _ _ _ (c .before .before .before .before .before .before .before .before .before .before .before .before .before .before .before .before .before .before .before .before .before .before .before .before .fold-node2 .ensures _ (left-asks _ _ _ _ _ _ _ _ _ _ t A _ _ (sym (c .before .before .before .before .before .before .before .before .before .before .before .before .before .before .before .before .before .before .before .before .before .before .before .before .before .before .before .before .before .before .node-of .ensures) ∙ c .before .before .before .before .before .before .before .before .before .before .before .before .before .before .before .before .before .before .before .before .before .before .before .before .before .before .before .before .op2 .given .1))) _ _ _ _ (c .before .before .before .before .before .before .before .before .before .before .before .before .before .before .before .before .before .before .a2 .given .1) (c .before .before .before .before .before .before .before .before .before .before .before .before .before .before .before .before .before .before .before .before .before .before .before .before .fold-node2 .kept .1 .1 .1 .1 .1 .1 .1 .1 .0) (c .before .before .before .before .before .before .before .before .before .before .before .before .before .before .before .before .before .before .before .before .before .before .before .before .fold-node2 .kept .1 .1 .1 .1 .1 .0) _ _ _ (c .before .before .before .before .before .before .before .before .before .before .before .before .before .before .fold-node3 .ensures _ (right-asks _ _ _ _ _ _ _ _ _ _ t A _ _ (sym (c .before .before .before .before .before .before .before .before .before .before .before .before .before .before .before .before .before .before .before .before .before .before .before .before .before .before .before .before .before .before .node-of .ensures) ∙ c .before .before .before .before .before .before .before .before .before .before .before .before .before .before .before .before .before .before .before .before .before .before .before .before .before .before .before .before .op2 .given .1) _ _ _ (c .before .before .before .before .before .before .before .before .before .before .before .before .before .before .before .before .before .before .before .before .before .before .before .before .fold-node2 .ensures _ (left-asks _ _ _ _ _ _ _ _ _ _ t A _ _ (sym (c .before .before .before .before .before .before .before .before .before .before .before .before .before .before .before .before .before .before .before .before .before .before .before .before .before .before .before .before .before .before .node-of .ensures) ∙ c .before .before .before .before .before .before .before .before .before .before .before .before .before .before .before .before .before .before .before .before .before .before .before .before .before .before .before .before .op2 .given .1))) _ _ _ _ (c .before .before .before .before .before .before .before .before .before .before .before .before .before .before .before .before .before .before .a2 .given .1) (c .before .before .before .before .before .before .before .before .before .before .before .before .before .before .before .before .before .before .before .before .before .before .before .before .fold-node2 .kept .1 .1 .1 .1 .1 .1 .1 .1 .0) (c .before .before .before .before .before .before .before .before .before .before .before .before .before .before .before .before .before .before .before .before .before .before .before .before .fold-node2 .kept .1 .1 .1 .1 .1 .0))) _ _ _ _ (c .before .before .before .before .before .before .before .before .b .given .1) (c .before .before .before .before .before .before .before .before .before .before .before .before .before .before .fold-node3 .kept .1 .1 .1 .1 .1 .1 .1 .1 .0) (c .before .before .before .before .before .before .before .before .before .before .before .before .before .before .fold-node3 .kept .1 .1 .1 .1 .1 .0) _ _ _ (c .before .before .before .before .fold-two .ensures)
+fold-node-returns-6 t c = λ v t A. two-gives _ _ _ _ _ _ _ _ _ _ t A _ _ (sym (c .before .before .before .before .before .before .before .before .before .before .before .before .before .before .before .before .before .before .before .before .before .before .before .before .before .before .before .before .before .before .node-of .ensures) ∙ c .before .before .before .before .before .before .before .before .before .before .before .before .before .before .before .before .before .before .before .before .before .before .before .before .before .before .before .before .op2 .given .1) _ _ _ (c .before .before .before .before .before .before .before .before .before .before .before .before .before .before .before .before .before .before .before .before .before .before .before .before .fold-node2 .ensures _ _ (left-asks _ _ _ _ _ _ _ _ _ _ t A _ _ (sym (c .before .before .before .before .before .before .before .before .before .before .before .before .before .before .before .before .before .before .before .before .before .before .before .before .before .before .before .before .before .before .node-of .ensures) ∙ c .before .before .before .before .before .before .before .before .before .before .before .before .before .before .before .before .before .before .before .before .before .before .before .before .before .before .before .before .op2 .given .1))) _ _ _ _ (c .before .before .before .before .before .before .before .before .before .before .before .before .before .before .before .before .before .before .a2 .given .1) (c .before .before .before .before .before .before .before .before .before .before .before .before .before .before .before .before .before .before .before .before .before .before .before .before .fold-node2 .kept .1 .1 .1 .1 .1 .1 .1 .0) (c .before .before .before .before .before .before .before .before .before .before .before .before .before .before .before .before .before .before .before .before .before .before .before .before .fold-node2 .kept .1 .1 .1 .1 .1 .0) _ _ _ (c .before .before .before .before .before .before .before .before .before .before .before .before .before .before .fold-node3 .ensures _ _ (right-asks _ _ _ _ _ _ _ _ _ _ t A _ _ (sym (c .before .before .before .before .before .before .before .before .before .before .before .before .before .before .before .before .before .before .before .before .before .before .before .before .before .before .before .before .before .before .node-of .ensures) ∙ c .before .before .before .before .before .before .before .before .before .before .before .before .before .before .before .before .before .before .before .before .before .before .before .before .before .before .before .before .op2 .given .1) _ _ _ (c .before .before .before .before .before .before .before .before .before .before .before .before .before .before .before .before .before .before .before .before .before .before .before .before .fold-node2 .ensures _ _ (left-asks _ _ _ _ _ _ _ _ _ _ t A _ _ (sym (c .before .before .before .before .before .before .before .before .before .before .before .before .before .before .before .before .before .before .before .before .before .before .before .before .before .before .before .before .before .before .node-of .ensures) ∙ c .before .before .before .before .before .before .before .before .before .before .before .before .before .before .before .before .before .before .before .before .before .before .before .before .before .before .before .before .op2 .given .1))) _ _ _ _ (c .before .before .before .before .before .before .before .before .before .before .before .before .before .before .before .before .before .before .a2 .given .1) (c .before .before .before .before .before .before .before .before .before .before .before .before .before .before .before .before .before .before .before .before .before .before .before .before .fold-node2 .kept .1 .1 .1 .1 .1 .1 .1 .0) (c .before .before .before .before .before .before .before .before .before .before .before .before .before .before .before .before .before .before .before .before .before .before .before .before .fold-node2 .kept .1 .1 .1 .1 .1 .0))) _ _ _ _ (c .before .before .before .before .before .before .before .before .b .given .1) (c .before .before .before .before .before .before .before .before .before .before .before .before .before .before .fold-node3 .kept .1 .1 .1 .1 .1 .1 .1 .0) (c .before .before .before .before .before .before .before .before .before .before .before .before .before .before .fold-node3 .kept .1 .1 .1 .1 .1 .0) _ _ _ (c .before .before .before .before .fold-two .ensures)
 
 pub +fold-node-spec : {M : Type 1} → statement M
 +fold-node-spec = close μ-fold-node λ t. fold-node-lts.spec (rs t)
@@ -183,8 +183,8 @@ pub +fold-node-spec : {M : Type 1} → statement M
     (fold-node-node-of-requires t)
     (fold-node-enum-known-word t)
     (fold-node-write-leaf-requires t)
-    (fold-node-sub-t38 t)
-    (fold-node-add-t39 t)
+    (fold-node-sub-t37 t)
+    (fold-node-add-t38 t)
     (fold-node-enum-known-op t)
     (fold-node-sub-fold-node t)
     (fold-node-sub-fold-node-2 t)
