@@ -4,16 +4,17 @@ use mathlib.Core.Bool.{Bool, true, false, not, cond}
 use mathlib.Core.List.{List, [], _∷_, _++_}
 use Prim.Native.Nat.{ℕ, zero, suc, _+_, _-_, _*_, _≤_, _<_}
 use native.Mathlib.Omega.{arith}
-use native.Mathlib.Nat.{add-zero, zero-mul, suc-mul}
+use native.Mathlib.Nat.{add-zero, zero-add, zero-mul, suc-mul}
 use native.Mathlib.Numerals.{add-one}
-use lib.ListN.{length, take, drop, getD, length-append}
+use lib.ListN.{length, take, drop, getD, length-append, List·getD-append}
 use lib.Seq.{take-length}
 use Rattle.refusals.specs.Stop.{never, orElse}
 use Rattle.refusals.proofs.First.{never-both}
 use Rattle.cells.specs.Cell.{cellStop}
 use Rattle.cells.proofs.Stops.{never-stops, stop-never}
 use Rattle.checks.specs.Check.{cellsStop}
-use Rattle.slices.specs.Splice.{piece}
+use Rattle.slices.specs.Splice.{piece, splice}
+use Rattle.slices.proofs.Splice.{splice-start}
 use Rattle.marking.specs.RowList.{Test, isTrue, stopAt, keptFrom, trueRows, otherRows, refusedFrom, wordsOf}
 use Rattle.marking.specs.Marks.{flagsFrom}
 
@@ -21,9 +22,11 @@ use Rattle.marking.specs.Marks.{flagsFrom}
 
 module _ (i n : ℕ) where
   module _ (h : i < n) where
+    -- one more is left
     left : n - i ≡ suc (n - (i + 1))
     left = omega arith
 
+    -- a row is kept or not, refused or not, and has its mark
     pub kept-turn : (keeps : ℕ → Bool)
         → keptFrom keeps i (n - i) ≡ cond (keeps i) (i ∷ keptFrom keeps (i + 1) (n - (i + 1))) (keptFrom keeps (i + 1) (n - (i + 1)))
     unfolding keptFrom
@@ -38,9 +41,11 @@ module _ (i n : ℕ) where
     flags-turn t = rw (left, add-one i)
 
   module _ (h : n ≤ i) where
+    -- none is left
     none : n - i ≡ 0
     none = omega arith
 
+    -- past the last row nothing is kept, refused or marked
     pub kept-end : (keeps : ℕ → Bool) → keptFrom keeps i (n - i) ≡ []
     unfolding keptFrom
     kept-end keeps = rw none
@@ -55,6 +60,7 @@ module _ (i n : ℕ) where
 
 -- ---- how many, and which
 
+-- no more are kept than are asked
 pub kept-few : (keeps : ℕ → Bool) (i n : ℕ) → length (keptFrom keeps i n) ≤ n
 unfolding keptFrom
 kept-few keeps i zero = omega arith
@@ -84,6 +90,12 @@ kept-same f g i zero h = refl
 kept-same f g i (suc n) h =
     rw (h i (omega arith) (omega arith), kept-same f g (suc i) n (λ j l m. h j (omega arith) (omega arith)))
 
+-- a test that always holds keeps all
+pub kept-all : (i n : ℕ) → length (keptFrom (λ j. true) i n) ≡ n
+unfolding keptFrom
+kept-all i zero = refl
+kept-all i (suc n) = ap suc (kept-all (suc i) n)
+
 -- each row is kept by a test or by its opposite
 pub kept-both : (keeps : ℕ → Bool) (i n : ℕ) → length (keptFrom keeps i n) + length (keptFrom (λ j. not (keeps j)) i n) ≡ n
 unfolding keptFrom
@@ -96,11 +108,13 @@ kept-both keeps i (suc n) = by (keeps i) (kept-both keeps (suc i) n)
     by true h = omega arith
     by false h = omega arith
 
+-- the true rows and the other rows are all
 pub true-and-other : (t : Test) (n : ℕ) → length (trueRows t n) + length (otherRows t n) ≡ n
 true-and-other t n = kept-both (λ i. isTrue (t i)) 0 n
 
 -- ---- marks
 
+-- a mark for each row, and which
 pub flags-length : (t : Test) (i n : ℕ) → length (flagsFrom t i n) ≡ n
 unfolding flagsFrom
 flags-length t i zero = refl
@@ -114,9 +128,16 @@ flag-at t i (suc n) (suc j) h =
     let e : suc i + j ≡ i + suc j = omega arith in
     flag-at t (suc i) n j (omega arith) ∙ ap (λ k. cond (isTrue (t k)) 1 0) e
 
+-- the mark of a row, where the marks were written over others
+pub mark-at : (t : Test) (n : ℕ) (before : List ℕ) (j : ℕ) → j < n → getD (splice before 0 (flagsFrom t 0 n)) j 0 ≡ cond (isTrue (t j)) 1 0
+mark-at t n before j h =
+    rw (splice-start before (flagsFrom t 0 n), List·getD-append (flagsFrom t 0 n) (drop (length (flagsFrom t 0 n)) before) 0 j (rw (flags-length t 0 n) h))
+    (flag-at t 0 n j h ∙ rw (zero-add j))
+
 -- ---- words
 
 module _ (row : ℕ → List ℕ) where
+  -- the words of no row, and of one more
   pub words-none : wordsOf row [] ≡ []
   unfolding wordsOf
   words-none = refl
@@ -142,6 +163,7 @@ words-same f g (i ∷ numbers) h = ap₂ _++_ (h i) (words-same f g numbers h)
 
 -- ---- sound cells
 
+-- a cell is sound at any place
 cell-anywhere : (used w p q : ℕ) → cellStop used w p ≡ never → cellStop used w q ≡ never
 cell-anywhere used w p q h = let s = never-stops used w p h in stop-never used w q (s .0) (s .1)
 

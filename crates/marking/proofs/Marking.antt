@@ -32,12 +32,14 @@ markOf Yes = Rows 1
 markOf No = Rows 0
 markOf (Verdict.Refused r) = Refused r
 
+-- a verdict's mark says what the verdict says
 mark-is : (place : ℕ) (v : Verdict) (t : Tested) → VerdictIs place v t → MarkIs place (markOf v) t
 mark-is place Yes t h = rw h (refl, refl)
 mark-is place No t h = rw h (refl, refl)
 mark-is place (Verdict.Refused r) t h = rw (h .0) (ap (stop (told r .number)) (sym (h .1)))
 
 module _ (used place count : ℕ) (before : List ℕ) where
+  -- a condition was tested
   pub row-tested : (after : List ℕ) (t : Tested) (v w : Verdict) → v ≡ w → (count ≡ 0 → ⊥) → TestIs used place before after v t → RowIs used place count before after (markOf w) t
   row-tested after t v w e n s =
       record { kept = s .kept; alone = λ z. absurd (n z); says = mark-is place w t (subst (λ x. VerdictIs place x t) e (s .says)) }
@@ -61,6 +63,7 @@ pub record Marking (t : Test) (n : ℕ) (before : List ℕ) (i k : ℕ) (marks :
   pub marked : splice before 0 (flagsFrom t 0 n) ≡ splice marks i (flagsFrom t i (n - i))
 
 module _ (t : Test) (n : ℕ) (before : List ℕ) where
+  -- nothing is marked yet
   pub marking-start : Marking t n before 0 0 before
   marking-start = record { below = omega arith; few = omega arith; long = refl; refused = rw sub-zero; counted = rw sub-zero (omega arith); marked = rw sub-zero }
 
@@ -108,6 +111,7 @@ row-inside n width i h =
 abbrev pub rowRead : List ℕ → ℕ → ℕ → List ℕ
 rowRead rows width i = piece (i * width) (i * width + width - i * width) rows
 
+-- it is the row of that number
 pub row-read : (rows : List ℕ) (width i : ℕ) → rowRead rows width i ≡ part rows width i
 row-read rows width i = ap (λ k. piece (i * width) k rows) (add-sub-cancel-left (i * width) width)
 
@@ -119,10 +123,12 @@ pub record MarkLoop (count used n width : ℕ) (nodes rows text₀ marks₀ text
   pub marking : (b : List ℕ) → MarkAsks b used count n width nodes rows text₀ marks₀ → Marking (testOf base b used (take used text₀) rows width) n marks₀ i k marks
 
 module _ (count used n width : ℕ) (nodes rows text₀ marks₀ : List ℕ) where
+  -- the loop begins
   pub loop-start : MarkLoop count used n width nodes rows text₀ marks₀ text₀ marks₀ 0 0
   loop-start = record { kept = refl; size = refl; alone = λ z. refl; marking = λ b A. marking-start _ n marks₀ }
 
   module _ {text marks : List ℕ} {k i : ℕ} (L : MarkLoop count used n width nodes rows text₀ marks₀ text marks k i) where
+    -- the loop ends
     pub loop-end : n ≤ i → (b : List ℕ) → MarkAsks b used count n width nodes rows text₀ marks₀
         → MarkedIs (testOf base b used (take used text₀) rows width) n used text₀ text marks₀ marks (Rows k)
     loop-end h b A = record { kept = L .kept; says = marking-end _ n marks₀ i k marks (L .marking b A) h }
@@ -150,6 +156,7 @@ module _ (count used n width : ℕ) (nodes rows text₀ marks₀ : List ℕ) whe
             let r : RowIs used i count text text′ m (test base b used (take used text) (rowRead rows width i)) = rw (← q) (f b (row-asks b A)) in
             rw (← row-read rows width i, ← L .kept) r
 
+        -- a row is marked
         pub loop-turn : (b : List ℕ) → MarkAsks b used count n width nodes rows text₀ marks₀ → (m : ℕ) → one ≡ Rows m
             → MarkLoop count used n width nodes rows text₀ marks₀ text′ (set marks i m) (k + m) (i + 1)
         loop-turn b A m q =
@@ -160,6 +167,7 @@ module _ (count used n width : ℕ) (nodes rows text₀ marks₀ : List ℕ) whe
               marking = λ b A. let s = marked-one b A (Rows m) q .says in marking-turn _ n marks₀ i k marks (L .marking b A) h m (A .space) (s .0) (s .1);
             }
 
+        -- a row is refused
         pub loop-refused : (b : List ℕ) → MarkAsks b used count n width nodes rows text₀ marks₀ → (r : Refusal) → one ≡ Refused r
             → MarkedIs (testOf base b used (take used text₀) rows width) n used text₀ text′ marks₀ marks one
         loop-refused b A r q =

@@ -26,10 +26,12 @@ says-whole s t n before after (Rows k) e h = (ap (λ x. orElse x (refusedFrom t 
 says-whole s t n before after (Refused r) e h = ap (λ x. orElse x (refusedFrom t 0 n)) e ∙ h
 
 module _ (b : List ℕ) (used n width : ℕ) (text marks nodes : List ℕ) (scanned : Scanned) (P : PreparedIs used width b nodes scanned) where
+  -- the condition's own refusal
   pub table-denied : (t : Test) (r : Refusal) → scanned ≡ Denied r → TableIs b (conditionStop used width b) t n used text text marks marks (Refused r)
   table-denied t r e = record { kept = refl; alone = λ z. refl; says = ap (λ s. orElse s (refusedFrom t 0 n)) (subst (PreparedIs used width b nodes) e P) }
 
   module _ (count : ℕ) (e : scanned ≡ Table count) where
+    -- the condition is prepared: its rows may be marked, and what they say then
     ready : PreparedIs used width b nodes (Table count)
     ready = subst (PreparedIs used width b nodes) e P
 

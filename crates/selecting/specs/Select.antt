@@ -1,10 +1,10 @@
 -- The calls `select` and `delete` (document 01, "Row calls"; Select::exec and Delete::exec of query.rs). Assumes nothing: these are definitions.
-use Prim.Native.Nat.{ℕ, suc, _+_, _*_, _/_}
+use Prim.Native.Nat.{ℕ, _+_, _*_, _/_}
 use mathlib.Core.Bool.{Bool, true, false, cond}
-use mathlib.Core.List.{List, [], _∷_, map}
-use lib.ListN.{length, take, getD}
+use mathlib.Core.List.{List, [], _∷_}
+use lib.ListN.{length, take}
 use lib.Dec.{ltb, leb}
-use Rattle.refusals.specs.Stop.{Stop, never, stopIf, orElse, firstOf}
+use Rattle.refusals.specs.Stop.{Stop, stopIf, firstOf}
 use Rattle.slices.specs.Bytes.{both}
 use Rattle.writing.specs.Writing.{WrittenIs}
 use Rattle.writing.specs.declared.Written.{Written}
@@ -14,20 +14,11 @@ use Rattle.tables.specs.Table.{columnCount, isTable, areRows, countStop, wordsS
 use Rattle.testing.specs.Test.{conditionStop, roomFor}
 use Rattle.marking.specs.RowList.{Test, trueRows, otherRows, refusedFrom, wordsOf}
 use Rattle.marking.specs.Marks.{part, testOf}
+use Rattle.projecting.specs.Project.{projected, listStop}
 
 -- how many rows a table has
 abbrev pub rowCount : List ℕ → List ℕ → ℕ
 rowCount columns rows = length rows / columnCount columns
-
--- a row's listed columns in the list's order; an empty list means all
-abbrev pub projected : List ℕ → List ℕ → List ℕ
-projected [] row = row
-projected (c ∷ list) row = map (λ i. getD row i 0) (c ∷ list)
-
--- 4 at the index of the first entry that is no column, the first entry having this index
-unfoldable pub listStop : ℕ → ℕ → List ℕ → Stop
-listStop width index [] = never
-listStop width index (c ∷ list) = orElse (stopIf (leb width c) 4 index) (listStop width (suc index) list)
 
 -- what every call on one table looks at first: 10, counts, words
 abbrev pub tableStop : Bool → List ℕ → List ℕ → List ℕ → ℕ → ℕ → Stop
