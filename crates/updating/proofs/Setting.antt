@@ -38,7 +38,7 @@ module _ (used : ℕ) (stored columns : List ℕ) (index c cell : ℕ) where
     set-cell r e = rw (lt-leb (columnCount columns) c h) (refused-first a _ _ r e f)
 
     module _ (e : a ≡ Sound) (long : length stored ≡ used) (v : ValueRef) (is : v ≡ refOf cell) (x : Bool)
-      (g : (s : List ℕ) → Inside (length s) v → x ≡ isValidValue (getD columns (2 * c + 1) 0) (toValue s v)) where
+        (g : (s : List ℕ) → Inside (length s) v → x ≡ isValidValue (getD columns (2 * c + 1) 0) (toValue s v)) where
       -- what the code asks of the cell in its column is what the definition asks
       valid : isValidValue (getD columns (2 * c + 1) 0) (valueOf stored cell) ≡ x
       valid =
