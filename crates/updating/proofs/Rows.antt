@@ -1,7 +1,7 @@
 -- A row written by its mark, and all rows one after another: a turn of the loop, its end, and how many words they take. Assumes nothing.
 use mathlib.Core.Path.{_≡_, refl, sym, ap, subst, _∙_}
 use mathlib.Core.Bool.{Bool, true, false, cond}
-use mathlib.Core.List.{List, [], _∷_, _++_}
+use mathlib.Core.List.{List, _++_}
 use Prim.Native.Nat.{ℕ, zero, suc, _+_, _-_, _*_, _≤_, _<_}
 use native.Mathlib.Omega.{arith}
 use lib.ListN.{length, take, drop, getD}
@@ -28,6 +28,7 @@ use Rattle.updating.proofs.Setting.{applied-length}
 -- ---- one row
 
 module _ {out row e : List ℕ} {at p : ℕ} (w : Wrote out at row p e) (sets : List ℕ) where
+  -- how much was written
   size : p - at ≡ length row
   size = omega (arith, w .place)
 
@@ -40,6 +41,7 @@ module _ {out row e : List ℕ} {at p : ℕ} (w : Wrote out at row p e) (sets : 
   lent : piece at (p - at) e ≡ row
   lent = rw (from, size) (take-at row (drop (at + length row) out) (length row) refl)
 
+  -- the sets' columns are within that part
   pub row-asks : Within (length row) sets → Within (length (piece at (p - at) e)) sets
   row-asks h = rw lent h
 
@@ -60,6 +62,7 @@ module _ {out row e : List ℕ} {at p : ℕ} (w : Wrote out at row p e) (sets : 
           list = rw (f, lent, wrote-kept w, from, size, n, drop-at row (drop (at + length row) out) (length row) refl);
         })
 
+-- a row keeps its length, whatever its mark
 pub row-length : (sets row : List ℕ) (mark : ℕ) → length (rowAfter sets mark row) ≡ length row
 row-length sets row mark = by (eqb mark 1)
   where
@@ -83,6 +86,7 @@ all-same f g i zero h = refl
 all-same f g i (suc n) h = rw (h i (omega arith) (omega arith), all-same f g (suc i) n (λ j l m. h j (omega arith) (omega arith)))
 
 module _ {sets rows marks : List ℕ} {width n : ℕ} (A : AllAsked sets rows marks width n) where
+  -- a row of the table has its width
   long : (i : ℕ) → i < n → length (part rows width i) ≡ width
   long i h = piece-length (i * width) width rows (omega (arith, row-inside n width i h, A .whole))
 
@@ -95,9 +99,11 @@ module _ {sets rows marks : List ℕ} {width n : ℕ} (A : AllAsked sets rows ma
       ∙ ap (λ k. k * width) (kept-all 0 n) ∙ sym (A .whole)
 
   module _ (d : List ℕ) (fits : length rows ≤ length d) where
+    -- an output as long as the rows has room for what is written
     pub all-room : length (allWords sets rows width n marks) ≤ length d
     all-room = rw all-length fits
 
+    -- rows written up to a number
     abbrev WritingAll : List ℕ → ℕ → ℕ → Type 0
     WritingAll = Writing (λ j. rowAfter sets (getD marks j 0) (part rows width j)) (λ j. true) n d
 
@@ -108,6 +114,7 @@ module _ {sets rows marks : List ℕ} {width n : ℕ} (A : AllAsked sets rows ma
           let r = row-room _ (λ j. true) n d out at i W all-room h refl in
           rw (row-read rows width i, long i h) (A .within, omega (arith, r, row-length sets (part rows width i) (getD marks i 0), long i h))
 
+      -- one row more is written
       pub turn-wrote : (p : ℕ) (out′ : List ℕ) → Wrote out at (rowAfter sets (getD marks i 0) (rowRead rows width i)) p out′ → WritingAll out′ p (i + 1)
       turn-wrote p out′ w =
           writing-turn _ (λ j. true) n d out at i W all-room h refl p out′ (subst (λ r. Wrote out at (rowAfter sets (getD marks i 0) r) p out′) (row-read rows width i) w)

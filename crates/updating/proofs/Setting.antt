@@ -8,7 +8,7 @@ use native.Mathlib.Numerals.{add-one}
 use lib.ListN.{length, drop, set, getD, length-drop, length-set}
 use lib.Seq.{drop-cons}
 use lib.Dec.{leb}
-use borrow.Author.Tests.{le-leb, lt-leb, leb-false, not-true, not-false}
+use borrow.Author.Tests.{le-leb, lt-leb, leb-false}
 use Rattle.refusals.specs.Stop.{Stop, never, stop, stopIf, checkedOf, orElse}
 use Rattle.refusals.specs.declared.Refusal.{Refusal}
 use Rattle.refusals.specs.declared.Checked.{Checked}
@@ -63,9 +63,11 @@ pair sets k h =
     let f : suc (2 * k) ≡ 2 * k + 1 = omega arith in
     drop-cons sets (2 * k) 0 (omega arith) ∙ ap (λ x. getD sets (2 * k) 0 ∷ x) (drop-cons sets (suc (2 * k)) 0 (omega arith) ∙ (rw (e, f)))
 
+-- fewer than two words are left
 few-left : (sets : List ℕ) (k : ℕ) → length sets / 2 ≤ k → length (drop (2 * k) sets) ≤ 1
 few-left sets k h = rw length-drop (omega arith)
 
+-- four stops in a row, the first three as one
 grouped : (a b c d : Stop) → orElse a (orElse b (orElse c (orElse d never))) ≡ orElse (orElse a (orElse b (orElse c never))) d
 grouped (stop n p) b c d = refl
 grouped never (stop n p) c d = refl
@@ -74,6 +76,7 @@ grouped never never never (stop n p) = refl
 grouped never never never never = refl
 
 module _ (used : ℕ) (stored columns : List ℕ) where
+  -- the first of the sets, then the others
   one-first : (k c cell : ℕ) (sets : List ℕ)
       → setsStop used stored columns k (c ∷ cell ∷ sets) ≡ orElse (setStop used stored columns k c cell) (setsStop used stored columns (suc k) sets)
   unfolding setsStop setStop
@@ -81,11 +84,13 @@ module _ (used : ℕ) (stored columns : List ℕ) where
       grouped (stopIf (leb (columnCount columns) c) 4 k) (cellStop used cell k)
       (stopIf (not (isValidValue (getD columns (2 * c + 1) 0) (valueOf stored cell))) 13 k) (setsStop used stored columns (suc k) sets)
 
+  -- the set that a turn looks at, then those that are left
   pub sets-turn : (sets : List ℕ) (k : ℕ) → k < length sets / 2
       → setsStop used stored columns k (drop (2 * k) sets)
       ≡ orElse (setStop used stored columns k (getD sets (2 * k) 0) (getD sets (2 * k + 1) 0)) (setsStop used stored columns (k + 1) (drop (2 * (k + 1)) sets))
   sets-turn sets k h = ap (setsStop used stored columns k) (pair sets k h) ∙ one-first k _ _ _ ∙ rw (add-one k)
 
+  -- where no set is left, none is refused
   few : (k : ℕ) (l : List ℕ) → length l ≤ 1 → setsStop used stored columns k l ≡ never
   unfolding setsStop
   few k [] h = refl
@@ -113,6 +118,7 @@ module _ (used : ℕ) (stored columns : List ℕ) where
 
 -- ---- the sets applied
 
+-- a row keeps its length
 pub applied-length : (sets row : List ℕ) → length (applied sets row) ≡ length row
 unfolding applied
 applied-length [] row = refl
@@ -125,11 +131,13 @@ pub record Applying (sets start row : List ℕ) (k : ℕ) : Type 0 where
   pub within : Within (length start) (drop (2 * k) sets)
   pub list : applied (drop (2 * k) sets) row ≡ applied sets start
 
+-- none applied yet
 pub applying-start : (sets row : List ℕ) → Within (length row) sets → Applying sets row row 0
 applying-start sets row w = record { long = refl; within = w; list = refl }
 
 module _ {sets start row : List ℕ} {k : ℕ} (A : Applying sets start row k) where
   module _ (h : k < length sets / 2) where
+    -- the column that a turn sets is there, and those that are left are
     here : (getD sets (2 * k) 0 < length start) × Within (length start) (drop (2 * (k + 1)) sets)
     unfolding Within
     here = subst (Within (length start)) (pair sets k h) (A .within)
@@ -137,10 +145,12 @@ module _ {sets start row : List ℕ} {k : ℕ} (A : Applying sets start row k) w
     pub applying-inside : getD sets (2 * k) 0 < length row
     applying-inside = omega (arith, here .0, A .long)
 
+    -- one more applied
     pub applying-turn : Applying sets start (set row (getD sets (2 * k) 0) (getD sets (2 * k + 1) 0)) (k + 1)
     unfolding applied
     applying-turn = record { long = length-set row _ _ ∙ A .long; within = here .1; list = sym (ap (λ s. applied s row) (pair sets k h)) ∙ A .list }
 
+  -- where no set is left, the row is the result
   alone : (l : List ℕ) → length l ≤ 1 → applied l row ≡ row
   unfolding applied
   alone [] h = refl

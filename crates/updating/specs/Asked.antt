@@ -5,7 +5,7 @@ use mathlib.Core.Bool.{true, not, cond}
 use mathlib.Core.List.{List, [], _∷_}
 use lib.ListN.{length, getD}
 use lib.Dec.{leb, eqb}
-use Rattle.refusals.specs.Stop.{Stop, never, stopIf, orElse, firstOf}
+use Rattle.refusals.specs.Stop.{Stop, stopIf, firstOf}
 use Rattle.cells.specs.Cell.{cellStop}
 use Rattle.values.specs.Value.{valueOf}
 use Rattle.rules.specs.Rule.{isValidValue}

@@ -1,6 +1,5 @@
 -- `updating::are_sets` meets its contract. Assumes nothing.
 use borrow.Author.Tests.{eq-eqb, ne-eqb}
-use borrow.Author.Needs.{needs}
 use Rattle.updating.proofs.are_sets.Statement.{statement}
 use Rattle.updating.proofs.are_sets.Tie as tie
 

@@ -1,5 +1,4 @@
 -- `updating::write_row` meets its contract. Assumes nothing.
-use native.Mathlib.Omega.{arith}
 use Rattle.updating.proofs.Rows.{row-asks, row-plain, row-set}
 use borrow.Author.Needs.{needs}
 use Rattle.updating.proofs.write_row.Statement.{statement}
