@@ -1,10 +1,10 @@
 -- The call `update` (document 01, "Row calls"; Update::exec of query.rs). Assumes nothing: these are definitions.
 use Prim.Native.Nat.{ℕ, suc, _+_, _*_, _/_, _%_}
-use mathlib.Core.Bool.{Bool, true, false, not, cond}
+use mathlib.Core.Bool.{Bool, true, not, cond}
 use mathlib.Core.List.{List, [], _∷_}
-use lib.ListN.{length, take, getD, set}
-use lib.Dec.{ltb, leb, eqb}
-use Rattle.refusals.specs.Stop.{Stop, never, stopIf, orElse, firstOf}
+use lib.ListN.{length, getD, set}
+use lib.Dec.{leb, eqb}
+use Rattle.refusals.specs.Stop.{Stop, never, stopIf, firstOf}
 use Rattle.slices.specs.Bytes.{both}
 use Rattle.writing.specs.Writing.{WrittenIs}
 use Rattle.writing.specs.declared.Written.{Written}
