@@ -224,6 +224,55 @@ pub fn output_is(out: &[u8], result: &[u8], rubbish: u64) -> bool {
     true
 }
 
+// Whether two slices have the same words.
+pub fn same_words(a: &[u64], b: &[u64]) -> bool {
+    if a.len() != b.len() {
+        return false;
+    }
+    let mut i: usize = 0;
+    while i < a.len() {
+        if a[i] != b[i] {
+            return false;
+        }
+        i += 1;
+    }
+    true
+}
+
+// The word of rubbish at a place.
+fn word_at(at: usize, rubbish: u64) -> u64 {
+    at as u64 % 1000 * 7 + rubbish % 1000
+}
+
+// An output of words as lent.
+pub fn lend_words(out: &mut [u64], rubbish: u64)
+    ensures { λ _. ⌜ length (now (out .exit)) ≡ length (now (out .entry)) ⌝ }
+{
+    let mut i: usize = 0;
+    while i < out.len() {
+        out[i] = word_at(i, rubbish);
+        i += 1;
+    }
+}
+
+// Whether an output of words holds the result at its start, and the rubbish that was lent after it.
+pub fn words_are(out: &[u64], result: &[u64], rubbish: u64) -> bool {
+    let mut i = result.len();
+    if out.len() < i {
+        return false;
+    }
+    if !same_words(&out[..i], result) {
+        return false;
+    }
+    while i < out.len() {
+        if out[i] != word_at(i, rubbish) {
+            return false;
+        }
+        i += 1;
+    }
+    true
+}
+
 // Whether a text holds the stored bytes at its start, and the new ones from there to the mark or its end.
 pub fn text_is(text: &[u8], stored: &[u8], new: &[u8], mark: usize) -> bool {
     let start = stored.len();

@@ -7,21 +7,6 @@ use heads::Joined;
 use replay::Expected;
 use replay::Text;
 
-// Whether two slices have the same words.
-fn same_words(a: &[u64], b: &[u64]) -> bool {
-    if a.len() != b.len() {
-        return false;
-    }
-    let mut i: usize = 0;
-    while i < a.len() {
-        if a[i] != b[i] {
-            return false;
-        }
-        i += 1;
-    }
-    true
-}
-
 // An accepted answer, with the mark where it was.
 fn accepted(e: Expected, used: usize) -> bool {
     e.number == 0 && e.place == 0 && e.used == used as u64
@@ -40,7 +25,7 @@ fn row_is(rows: &[u64], width: usize, number: usize, index: usize, result: &[u64
     if part.len() == 0 {
         return result.len() == 0 && index == 0;
     }
-    same_words(part, result) && same_words(part, &rows[index..end])
+    replay::same_words(part, result) && replay::same_words(part, &rows[index..end])
 }
 
 // Call 16: one row.
@@ -82,8 +67,8 @@ fn earlier_is<'a>(
         return value == 0;
     }
     match value {
-        1 => same_words(part, first),
-        2 => same_words(part, second),
+        1 => replay::same_words(part, first),
+        2 => replay::same_words(part, second),
         _ => false,
     }
 }
@@ -142,40 +127,6 @@ fn earlier_given(case: &[u8], text: &mut [u8], rubbish: u64) -> bool
     )
 }
 
-// The word of rubbish at a place.
-fn rubbish_at(at: usize, rubbish: u64) -> u64 {
-    at as u64 % 1000 * 7 + rubbish % 1000
-}
-
-// An output as lent.
-fn lend_words(out: &mut [u64], rubbish: u64)
-    ensures { λ _. ⌜ length (now (out .exit)) ≡ length (now (out .entry)) ⌝ }
-{
-    let mut i: usize = 0;
-    while i < out.len() {
-        out[i] = rubbish_at(i, rubbish);
-        i += 1;
-    }
-}
-
-// Whether an output holds the result at its start, and the rubbish that was lent after it.
-fn output_is(out: &[u64], result: &[u64], rubbish: u64) -> bool {
-    let mut i = result.len();
-    if out.len() < i {
-        return false;
-    }
-    if !same_words(&out[..i], result) {
-        return false;
-    }
-    while i < out.len() {
-        if out[i] != rubbish_at(i, rubbish) {
-            return false;
-        }
-        i += 1;
-    }
-    true
-}
-
 // Whether these bytes stand from one place to another.
 fn stands(text: &[u8], from: usize, to: usize, bytes: &[u8]) -> bool {
     if to < from {
@@ -214,7 +165,7 @@ fn left_so(
     let result = replay::words(case, replay::after(case, at, 32), &mut place);
     let count = result.count;
     let new = replay::bytes(case, result.next);
-    output_is(out, &place[..count], rubbish)
+    replay::words_are(out, &place[..count], rubbish)
         && agrees(answer, e, text, used, replay::part(case, new))
 }
 
@@ -257,7 +208,7 @@ fn called(
         return false;
     }
     replay::lend(text, stored, rubbish);
-    lend_words(out, rubbish);
+    replay::lend_words(out, rubbish);
     let outer = case[0] == 24;
     let used = lent.used;
     let answer = joined(outer, left_name, left, right_name, right, text, used, out);

@@ -23,11 +23,11 @@ bytes-requires c κs = search needs
 array-share-prefix-place : tie.Need-array-share-prefix-place
 array-share-prefix-place c = search needs
 
-slice-aggregate-output-is : tie.Need-slice-aggregate-output-is
-slice-aggregate-output-is c = sym (length-take-le _ _ (c .before .before .before .words .ensures .0))
+slice-aggregate-words-are : tie.Need-slice-aggregate-words-are
+slice-aggregate-words-are c = sym (length-take-le _ _ (c .before .before .before .words .ensures .0))
 
-output-is-requires : tie.Need-output-is-requires
-output-is-requires c κs = search needs
+words-are-requires : tie.Need-words-are-requires
+words-are-requires c κs = search needs
 
 part-requires : tie.Need-part-requires
 part-requires c κs = search needs
@@ -51,8 +51,8 @@ left-so-spec =
     words-requires
     bytes-requires
     array-share-prefix-place
-    slice-aggregate-output-is
-    output-is-requires
+    slice-aggregate-words-are
+    words-are-requires
     part-requires
     agrees-requires
     returns

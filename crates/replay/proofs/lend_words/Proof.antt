@@ -1,10 +1,10 @@
--- `replay_tables::lend_words` is safe and keeps the length. Assumes nothing.
+-- `replay::lend_words` is safe and keeps the length. Assumes nothing.
 use mathlib.Core.Path.{_≡_, refl}
 use Prim.Native.Nat.{_≤_, _-_}
 use lib.ListN.{length, length-set}
 use borrow.Author.Needs.{needs}
-use Rattle.replay_tables.proofs.lend_words.Statement.{statement}
-use Rattle.replay_tables.proofs.lend_words.Tie as tie
+use Rattle.replay.proofs.lend_words.Statement.{statement}
+use Rattle.replay.proofs.lend_words.Tie as tie
 
 abbrev Inv-loop : tie.InvT-loop
 Inv-loop out₀ rubbish i₀ out i = (i ≤ length out) × (length out ≡ length out₀)
@@ -15,8 +15,8 @@ abbrev μ-loop : tie.MeasureT-loop
 loop-holds : tie.Need-loop-holds Inv-loop μ-loop
 loop-holds c = (search needs, refl)
 
-rubbish-at-requires : tie.Need-rubbish-at-requires Inv-loop μ-loop
-rubbish-at-requires c κs = search needs
+word-at-requires : tie.Need-word-at-requires Inv-loop μ-loop
+word-at-requires c κs = search needs
 
 mul-out : tie.Need-mul-out Inv-loop μ-loop
 mul-out c = search needs
@@ -46,7 +46,7 @@ lend-words-spec =
     Inv-loop
     μ-loop
     loop-holds
-    rubbish-at-requires
+    word-at-requires
     mul-out
     slice-write-out
     add-i

@@ -1,11 +1,11 @@
--- `replay_tables::output_is` is safe and ends. Assumes nothing.
+-- `replay::words_are` is safe and ends. Assumes nothing.
 use mathlib.Core.Path.{sym}
 use Prim.Native.Nat.{_≤_, _-_}
 use lib.ListN.{length}
 use lib.Seq.{length-take-le}
 use borrow.Author.Needs.{needs}
-use Rattle.replay_tables.proofs.output_is.Statement.{statement}
-use Rattle.replay_tables.proofs.output_is.Tie as tie
+use Rattle.replay.proofs.words_are.Statement.{statement}
+use Rattle.replay.proofs.words_are.Tie as tie
 
 abbrev Inv-loop : tie.InvT-loop
 Inv-loop out result rubbish i₀ i = i ≤ length out
@@ -34,8 +34,8 @@ mul-if3 c = search needs
 shared-slice-read-if3 : tie.Need-shared-slice-read-if3 Inv-loop μ-loop
 shared-slice-read-if3 c = search needs
 
-rubbish-at-requires : tie.Need-rubbish-at-requires Inv-loop μ-loop
-rubbish-at-requires c κs = search needs
+word-at-requires : tie.Need-word-at-requires Inv-loop μ-loop
+word-at-requires c κs = search needs
 
 returns-3 : tie.Need-returns-3 Inv-loop μ-loop
 returns-3 c = search needs
@@ -52,8 +52,8 @@ loop-again c = search needs
 returns-4 : tie.Need-returns-4 Inv-loop μ-loop
 returns-4 c = search needs
 
-pub output-is-spec : {M : Type 1} → statement M
-output-is-spec =
+pub words-are-spec : {M : Type 1} → statement M
+words-are-spec =
     tie.close
     (tie.spec
     Inv-loop
@@ -65,7 +65,7 @@ output-is-spec =
     loop-holds
     mul-if3
     shared-slice-read-if3
-    rubbish-at-requires
+    word-at-requires
     returns-3
     add-i
     loop-less

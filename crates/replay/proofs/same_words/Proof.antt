@@ -1,10 +1,10 @@
--- `replay_tables::same_words` is safe and ends. Assumes nothing.
+-- `replay::same_words` is safe and ends. Assumes nothing.
 use mathlib.Core.Path.{_≡_}
 use Prim.Native.Nat.{_≤_, _-_}
 use lib.ListN.{length}
 use borrow.Author.Needs.{needs}
-use Rattle.replay_tables.proofs.same_words.Statement.{statement}
-use Rattle.replay_tables.proofs.same_words.Tie as tie
+use Rattle.replay.proofs.same_words.Statement.{statement}
+use Rattle.replay.proofs.same_words.Tie as tie
 
 abbrev Inv-loop : tie.InvT-loop
 Inv-loop a b i₀ i = (i ≤ length a) × (length a ≡ length b)
