@@ -15,6 +15,7 @@ pub fn calls(random: &mut Random) -> Vec<Call> {
     let mut calls: Vec<Call> = most_forms().iter().map(|form| print(form, b"abc", 100)).collect();
     calls.extend(nested());
     calls.extend(literals());
+    calls.push(document_example());
     calls.extend(outputs());
     for _ in 0..RANDOM {
         calls.push(random_print(random));
@@ -51,6 +52,13 @@ fn nested() -> Vec<Call> {
         calls.extend((16..=18).map(|second| print(&unary(first, &unary(second, &a)), b"abc", 40)));
     }
     calls
+}
+
+/// Document 01's `a AND b OR c = "q\""`; its other three are among the nested ones and the outputs.
+fn document_example() -> Call {
+    let [a, b, c] = [0, 1, 2].map(|start| nodes::name(start, 1));
+    let quoted = binary(EQUAL, &c, &nodes::text(3, 2));
+    print(&binary(OR, &binary(AND, &a, &b), &quoted), b"abcq\"", 40)
 }
 
 /// All that can be quoted, and some bytes that can't.
