@@ -11,7 +11,7 @@ fn left_so(case: &[u8], lent: Text, answer: Written, text: &[u8], out: &[u64], r
     let stored = replay::part(case, lent.stored);
     let at = replay::after(case, lent.stored.next, 4);
     let e = replay::answer(case, at);
-    let mut place = [0u64; 128];
+    let mut place = [0u64; 4100];
     let result = replay::words(case, replay::after(case, at, 32), &mut place);
     let count = result.count;
     let end = stored.len();

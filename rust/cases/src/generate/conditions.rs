@@ -32,8 +32,8 @@ pub fn calls(random: &mut Random) -> Vec<Call> {
 
 pub fn calls_of_with(random: &mut Random) -> Vec<Call> {
     let mut calls = Vec::new();
-    for condition in forms() {
-        calls.push(with(&[], &condition));
+    calls.extend(forms().iter().map(|form| with(&[], form)));
+    for condition in low_forms() {
         calls.push(with(&condition, &[0]));
         calls.push(with(&nodes::int(9), &condition));
     }
@@ -62,6 +62,13 @@ fn with(old: &[u8], new: &[u8]) -> Call {
 pub fn forms() -> Vec<Vec<u8>> {
     let mut forms = forms_at_bounds();
     forms.extend((0..=255).flat_map(forms_of_kind));
+    forms
+}
+
+/// As `forms`, with the bytes up to the greatest known kind and two more.
+fn low_forms() -> Vec<Vec<u8>> {
+    let mut forms = forms_at_bounds();
+    forms.extend((0..=50).chain([255]).flat_map(forms_of_kind));
     forms
 }
 

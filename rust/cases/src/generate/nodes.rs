@@ -4,7 +4,9 @@ use model::Cell;
 
 pub const NOT: u8 = 18;
 pub const EQUAL: u8 = 32;
+pub const LESS: u8 = 34;
 pub const PLUS: u8 = 38;
+pub const BITS_AND: u8 = 42;
 pub const SHIFT_LEFT: u8 = 45;
 pub const AND: u8 = 48;
 pub const OR: u8 = 49;

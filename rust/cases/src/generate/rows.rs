@@ -16,6 +16,7 @@ pub fn calls(random: &mut Random) -> Vec<Call> {
         calls.extend(counts(kind));
         calls.extend(refusal_order(kind));
         calls.extend(buffers(kind));
+        calls.extend(refused_rows(kind));
         calls.extend(joined_texts(kind));
         calls.extend(some_forms().iter().map(|form| small(kind, form)));
         calls.extend(faulty_words(kind));
@@ -76,14 +77,19 @@ fn counts(kind: u8) -> Vec<Call> {
         calls.push(given.call(kind, text(), count + 1));
     }
     for rows in [0, 4096, 4097] {
-        let mut given = plain(&binary(34, &nodes::column(0), &nodes::int(4090)));
+        let (first, limit) = (nodes::column(0), nodes::int(4090));
+        // Few rows are selected or kept; update writes all, every second one changed.
+        let mut given = plain(&match kind {
+            SELECT => binary(LESS, &limit, &first),
+            DELETE => binary(LESS, &first, &limit),
+            _ => binary(BITS_AND, &first, &nodes::int(1)),
+        });
         given.columns = vec![text_word(0, 1), 1];
         given.rows = (0..rows).map(int_word).collect();
-        if kind == SELECT {
-            given.condition[0..7].copy_from_slice(&[1, 250, 15, 0, 0, 4, 0]);
+        if kind == UPDATE {
+            given.third = vec![0, int_word(-1)];
         }
-        // The whole table as a result is large to store: one word short.
-        calls.push(given.call(kind, text(), 4095));
+        calls.push(given.call(kind, text(), 4096));
     }
     let thirds = if kind == SELECT { [0, 1, 2, 31, 32, 33] } else { [1, 2, 127, 128, 129, 130] };
     for third in thirds {
@@ -178,6 +184,35 @@ fn buffers(kind: u8) -> Vec<Call> {
     for condition in [unary(NOT, &overflow), overflow] {
         for room in 0..8 {
             calls.push(plain(&condition).call(kind, plain_text(b"abc", ROOM), room));
+        }
+    }
+    calls
+}
+
+/// The first refused row tells the number, 5 or 6, and the place: alone, before
+/// and after rows that are true and false, before others that are refused.
+/// Neither what update sets nor an output that is too short hides it.
+fn refused_rows(kind: u8) -> Vec<Call> {
+    let sum = binary(PLUS, &nodes::column(0), &nodes::int(1));
+    let shifted = binary(SHIFT_LEFT, &nodes::int(0), &nodes::column(1));
+    let (is_true, is_false) = ([1, 0], [-1, 0]);
+    let (overflow, amount, both) = ([i32::MAX, 0], [1, 32], [i32::MAX, -1]);
+    let earlier = [vec![], vec![is_true, is_false], vec![is_false, is_true]];
+    let later = [vec![], vec![is_true], vec![is_false, amount, overflow]];
+    let third = if kind == SELECT { vec![1] } else { vec![0, int_word(0), 1, int_word(0)] };
+    let mut calls = Vec::new();
+    for refused in [overflow, amount, both] {
+        for before in &earlier {
+            for after in &later {
+                let rows = [&before[..], &[refused], after].concat();
+                let mut given = plain(&binary(PLUS, &sum, &shifted));
+                given.columns[3] = 1;
+                given.rows = rows.concat().into_iter().map(int_word).collect();
+                given.third = third.clone();
+                calls.push(given.call(kind, plain_text(b"ab", ROOM), 2 * rows.len()));
+                given.condition = binary(PLUS, &shifted, &sum);
+                calls.push(given.call(kind, plain_text(b"ab", ROOM), 0));
+            }
         }
     }
     calls
