@@ -13,7 +13,7 @@ use refusals::Refusal;
 use writing::Written;
 
 // The room above the mark that a condition needs.
-fn room_for(condition: &[u8]) -> usize
+pub fn room_for(condition: &[u8]) -> usize
     ensures { λ r. ⌜ r ≡ roomFor (now (condition .entry)) ⌝ }
 {
     if condition.len() == 0 {
