@@ -1,2 +1,4 @@
 -- What other crates use.
 pub mod Fields
+pub mod Rows
+pub mod Earlier
