@@ -2,3 +2,5 @@
 pub mod Fields
 pub mod Rows
 pub mod Earlier
+pub mod Unique
+pub mod Apart
