@@ -3,6 +3,7 @@ ghost use mathlib.Core.Path.{_≡_};
 ghost use lib.ListN.{length, take};
 ghost use Rattle.writing.specs.declared.Written.{Written};
 ghost use Rattle.selecting.specs.Select.{SelectIs, DeleteIs};
+ghost use Rattle.joins.specs.Join.{InnerJoinIs, LeftJoinIs};
 ghost use Rattle.updating.specs.Update.{UpdateIs};
 ghost use Rattle.answers.specs.Answer.{ofWritten};
 ghost use Rattle.answers.specs.Tells.{Tells};
@@ -25,6 +26,68 @@ pub extern "C" fn ruffleknoll_select(
 {
     answers::of_written(
         selecting::select(columns, rows, list, condition, text, used, out),
+        used,
+    )
+}
+
+// `inner_join`
+#[no_mangle]
+pub extern "C" fn ruffleknoll_inner_join(
+    left_columns: &[u64],
+    left: &[u64],
+    right_columns: &[u64],
+    right: &[u64],
+    condition: &[u8],
+    text: &mut [u8],
+    used: usize,
+    out: &mut [u64],
+) -> Answer
+    ensures { λ r. ⌜ Tells Written (ofWritten used) (λ w. InnerJoinIs (record { limit = 1024 }) (now («left_columns» .entry)) (now (left .entry)) (now («right_columns» .entry)) (now (right .entry))
+        (now (condition .entry)) (take used (now (text .entry))) (length (now (text .entry))) used (now (out .entry)) (now (out .exit)) w) r ⌝ }
+    ensures { λ r. ⌜ (take used (now (text .exit)) ≡ take used (now (text .entry))) × (length (now (condition .entry)) ≡ 0 → now (text .exit) ≡ now (text .entry)) ⌝ }
+{
+    answers::of_written(
+        joins::inner_join(
+            left_columns,
+            left,
+            right_columns,
+            right,
+            condition,
+            text,
+            used,
+            out,
+        ),
+        used,
+    )
+}
+
+// `left_join`
+#[no_mangle]
+pub extern "C" fn ruffleknoll_left_join(
+    left_columns: &[u64],
+    left: &[u64],
+    right_columns: &[u64],
+    right: &[u64],
+    condition: &[u8],
+    text: &mut [u8],
+    used: usize,
+    out: &mut [u64],
+) -> Answer
+    ensures { λ r. ⌜ Tells Written (ofWritten used) (λ w. LeftJoinIs (record { limit = 1024 }) (now («left_columns» .entry)) (now (left .entry)) (now («right_columns» .entry)) (now (right .entry))
+        (now (condition .entry)) (take used (now (text .entry))) (length (now (text .entry))) used (now (out .entry)) (now (out .exit)) w) r ⌝ }
+    ensures { λ r. ⌜ (take used (now (text .exit)) ≡ take used (now (text .entry))) × (length (now (condition .entry)) ≡ 0 → now (text .exit) ≡ now (text .entry)) ⌝ }
+{
+    answers::of_written(
+        joins::left_join(
+            left_columns,
+            left,
+            right_columns,
+            right,
+            condition,
+            text,
+            used,
+            out,
+        ),
         used,
     )
 }
