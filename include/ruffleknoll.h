@@ -1,8 +1,7 @@
 /* The calls of Ruffleknoll, for C and for Rust on x86-64 Linux. `rt staticlib ruffleknoll` proves them and writes
  * target/staticlib/libruffleknoll.a; it needs memcpy and memset of the program that links it, and nothing else.
  *
- * The base has 15 calls. These 12 stand here; ruffleknoll_inner_join, ruffleknoll_left_join and ruffleknoll_insert
- * are declared when they are written.
+ * The base has 15 calls. These 14 stand here; ruffleknoll_insert is declared when it is written.
  *
  * Every call answers for any bytes, any numbers and any lengths, and keeps nothing between calls.
  *
@@ -119,6 +118,28 @@ struct ruffleknoll_answer ruffleknoll_select(
     const uint64_t *columns, uint64_t columns_length,
     const uint64_t *rows, uint64_t rows_length,
     const uint64_t *column_list, uint64_t column_list_length,
+    const uint8_t *condition, uint64_t condition_length,
+    uint8_t *text, uint64_t text_length, uint64_t used,
+    uint64_t *output, uint64_t output_length);
+
+/* The pairs of which the condition is true, left row by left row, right rows in order: the left row's words, then the
+ * right row's. The condition is bound to the joined columns, left then right; a join needs one. Places of words count
+ * left columns, right columns, left rows, right rows; a pair's place is left row x right rows + right row. */
+struct ruffleknoll_answer ruffleknoll_inner_join(
+    const uint64_t *left_columns, uint64_t left_columns_length,
+    const uint64_t *left_rows, uint64_t left_rows_length,
+    const uint64_t *right_columns, uint64_t right_columns_length,
+    const uint64_t *right_rows, uint64_t right_rows_length,
+    const uint8_t *condition, uint64_t condition_length,
+    uint8_t *text, uint64_t text_length, uint64_t used,
+    uint64_t *output, uint64_t output_length);
+
+/* The same, and for a left row that has no such pair one row with Null on the right. */
+struct ruffleknoll_answer ruffleknoll_left_join(
+    const uint64_t *left_columns, uint64_t left_columns_length,
+    const uint64_t *left_rows, uint64_t left_rows_length,
+    const uint64_t *right_columns, uint64_t right_columns_length,
+    const uint64_t *right_rows, uint64_t right_rows_length,
     const uint8_t *condition, uint64_t condition_length,
     uint8_t *text, uint64_t text_length, uint64_t used,
     uint64_t *output, uint64_t output_length);
