@@ -1,0 +1,2 @@
+/* As stdint.h beside this. */
+typedef unsigned long size_t;

@@ -1,0 +1,47 @@
+//! Every mode passes over the model, and notices every planted mistake.
+
+use compare::planted::MISTAKES;
+use std::process::Command;
+
+const MODES: [(&str, &str); 3] = [("drawn", "3000"), ("hostile", "3000"), ("grown", "300")];
+
+/// Whether the program ends well, and its last line.
+fn run(words: &[&str]) -> (bool, String) {
+    let output = Command::new(env!("CARGO_BIN_EXE_compare")).args(words).output().unwrap();
+    let told = String::from_utf8_lossy(&output.stdout).into_owned();
+    (output.status.success(), told.lines().last().unwrap_or("").into())
+}
+
+#[test]
+fn the_model_itself_passes() {
+    for (mode, count) in MODES {
+        let expected = format!("{mode}: {count} calls, 0 differ");
+        assert_eq!(run(&[mode, "9", count]), (true, expected));
+    }
+}
+
+#[test]
+fn every_mistake_is_noticed() {
+    for (mode, count) in MODES {
+        for (mistake, _) in MISTAKES {
+            let (is_well, line) = run(&[mode, "9", count, "--plant", mistake]);
+            assert!(!is_well && line.starts_with(mode), "{mode} {mistake}: {line}");
+            assert!(!line.ends_with(" 0 differ"), "{mode} {mistake}: {line}");
+        }
+    }
+}
+
+#[test]
+fn a_host_that_ends_is_told() {
+    for (mode, count) in MODES {
+        let (is_well, line) = run(&[mode, "9", count, "--", "true"]);
+        assert!(!is_well, "{line}");
+    }
+}
+
+#[test]
+fn unknown_words_are_refused() {
+    for words in [&["drown"][..], &[], &["drawn", "x"], &["drawn", "1", "1", "--plant", "x"]] {
+        assert!(!run(words).0, "{words:?}");
+    }
+}
