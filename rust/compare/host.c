@@ -1,17 +1,18 @@
 /* The archive as a process of its own: it is x86-64 code, and what compares it
-   may run on another machine. It reads requests from standard input and writes
-   answers to standard output; all numbers are 64-bit and little-endian.
+   may run on another machine. Its argument is a file whose memory it shares;
+   the buffers of a call lie there. It reads requests from standard input and
+   writes answers to standard output; all numbers are 64-bit and little-endian.
 
-   At the start it writes where it keeps the lent memory, and a number with a
-   bit for each call (by docs/CASES.md's number) that the archive has. A request
-   is the call's number, the length of the memory, 15 arguments in the order of
-   include/ruffleknoll.h, zeros after the last, and the memory. The answer is
-   four numbers and the memory as the call left it: refusal number, place,
+   At the start it writes where the shared memory lies, and a number with a bit
+   for each call (by docs/CASES.md's number) that the archive has. A request is
+   the call's number and 15 arguments in the order of include/ruffleknoll.h,
+   zeros after the last. The answer is four numbers: refusal number, place,
    value, mark; `row` has its start and length as the last two, `earlier` its
    answer as value. It ends with status 0 at the end of its input.
 
    It needs no C library, so that the kit's compiler is all it takes. The
-   header says which calls there are: HAS_NAME is defined for each. */
+   header says which calls there are: HAS_NAME is defined for those of the last
+   three that it has. */
 
 #include "ruffleknoll.h"
 
@@ -20,20 +21,18 @@ typedef unsigned long word;
 enum { ARGUMENTS = 15, MEMORY = 1 << 24 };
 
 static struct {
-    word call, length, arguments[ARGUMENTS];
+    word call, arguments[ARGUMENTS];
 } request;
 
-static struct {
-    word numbers[4];
-    unsigned char memory[MEMORY];
-} answer __attribute__((aligned(64)));
-
-static long system_call(long number, long first, long second, long third)
+static long system_call(long number, long first, long second, long third, long fourth, long fifth)
 {
+    register long r10 __asm__("r10") = fourth;
+    register long r8 __asm__("r8") = fifth;
+    register long r9 __asm__("r9") = 0;
     long result;
     __asm__ volatile("syscall"
                      : "=a"(result)
-                     : "a"(number), "D"(first), "S"(second), "d"(third)
+                     : "a"(number), "D"(first), "S"(second), "d"(third), "r"(r10), "r"(r8), "r"(r9)
                      : "rcx", "r11", "memory");
     return result;
 }
@@ -41,15 +40,15 @@ static long system_call(long number, long first, long second, long third)
 static void leave(int status)
 {
     for (;;)
-        system_call(60, status, 0, 0);
+        system_call(60, status, 0, 0, 0, 0);
 }
 
-/* Reads or writes all of it; false where the other side has ended. */
-static int transfer(long number, int file, void *start, word length)
+/* Reads (0) or writes (1) all of it; false where the other side has ended. */
+static int transfer(int number, void *start, word length)
 {
     unsigned char *at = start;
     while (length > 0) {
-        long count = system_call(number, file, (long)at, (long)length);
+        long count = system_call(number, number, (long)at, (long)length, 0, 0);
         if (count <= 0)
             return 0;
         at += count;
@@ -58,14 +57,14 @@ static int transfer(long number, int file, void *start, word length)
     return 1;
 }
 
-static int receive(void *start, word length)
+/* Maps the file to read and to write, shared. */
+static word shared_memory(const char *path)
 {
-    return transfer(0, 0, start, length);
-}
-
-static int send(void *start, word length)
-{
-    return transfer(1, 1, start, length);
+    long file = system_call(2, (long)path, 2, 0, 0, 0);
+    long start = file < 0 ? file : system_call(9, 0, MEMORY, 3, 1, file);
+    if (start < 0)
+        leave(2);
+    return (word)start;
 }
 
 /* What a compiler may call without being asked. */
@@ -167,17 +166,19 @@ static word calls(void)
     return all;
 }
 
-__attribute__((force_align_arg_pointer, used)) void _start(void)
+/* The stack has the count of words that the process was called by, then each. */
+__asm__(".globl _start\n_start: mov %rsp, %rdi\n and $-16, %rsp\n call start\n");
+
+__attribute__((used)) void start(const word *stack)
 {
-    word greeting[2] = {(word)answer.memory, calls()};
-    if (!send(greeting, sizeof greeting))
+    if (stack[0] != 2)
         leave(2);
-    while (receive(&request, sizeof request)) {
-        if (request.length > MEMORY || !receive(answer.memory, request.length))
-            leave(2);
-        ruffleknoll_answer answered = ask(request.call, request.arguments);
-        memcpy(answer.numbers, &answered, sizeof answer.numbers);
-        if (!send(&answer, sizeof answer.numbers + request.length))
+    word greeting[2] = {shared_memory((const char *)stack[2]), calls()};
+    if (!transfer(1, greeting, sizeof greeting))
+        leave(2);
+    while (transfer(0, &request, sizeof request)) {
+        ruffleknoll_answer answer = ask(request.call, request.arguments);
+        if (!transfer(1, &answer, sizeof answer))
             leave(2);
     }
     leave(0);

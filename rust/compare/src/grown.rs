@@ -18,7 +18,10 @@ pub fn compare(library: &mut dyn Library, seed: u64, count: usize) -> Result<Tal
     let mut random = Random::new(seed);
     let mut rubbish = Rubbish::new(seed);
     let mut tally = Tally::of(signature_of(LEFT_JOIN).into_iter().collect());
-    while library.has(LEFT_JOIN) && tally.total() < count {
+    if !library.has(LEFT_JOIN) {
+        return Err("the library has no left_join yet".into());
+    }
+    while tally.total() < count {
         let join = Join::draw(&mut random);
         match join.check(library, &mut random, &mut rubbish) {
             Ok(None) => {}

@@ -3,7 +3,7 @@
 use compare::planted::MISTAKES;
 use std::process::Command;
 
-const MODES: [(&str, &str); 3] = [("drawn", "3000"), ("hostile", "3000"), ("grown", "300")];
+const MODES: [(&str, &str); 3] = [("drawn", "1000"), ("hostile", "2000"), ("grown", "300")];
 
 /// Whether the program ends well, and its last line.
 fn run(words: &[&str]) -> (bool, String) {
