@@ -1,10 +1,11 @@
 //! Calls of the recorded sample's kind, from a seed: those at bounds, made on
-//! purpose, then drawn ones. The original is asked too where it can answer.
+//! purpose, then drawn ones, some of them larger. The original is asked too where it can answer.
 
 use crate::check::{check, Fault};
 use crate::library::{present, Library};
 use crate::rubbish::Rubbish;
 use crate::tally::Tally;
+use crate::wide::wide_call;
 use cases::call::Call;
 use cases::format::{Case, FROM_MODEL};
 use cases::generate::{DRAWS, LAYERS};
@@ -26,6 +27,7 @@ pub fn compare(library: &mut dyn Library, seed: u64, count: usize) -> Result<Tal
         for draw in DRAWS {
             run.put(draw(&mut random))?;
         }
+        run.put(wide_call(&mut random))?;
     }
     Ok(run.tally)
 }

@@ -6,6 +6,7 @@ use crate::drawn::told;
 use crate::library::{calls, present, Library};
 use crate::rubbish::Rubbish;
 use crate::tally::Tally;
+use crate::wide::wide_call;
 use cases::answer::model_answer;
 use cases::call::{Call, Input, Kind, Text};
 use cases::format::{Case, FROM_MODEL};
@@ -38,8 +39,9 @@ pub fn compare(library: &mut dyn Library, seed: u64, count: usize) -> Result<Tal
 }
 
 pub fn hostile_call(random: &mut Random) -> Call {
-    let mut call = match random.below(3) {
-        0 => wild_call(random),
+    let mut call = match random.below(30) {
+        0..=9 => wild_call(random),
+        10 => wide_call(random),
         _ => random.pick(DRAWS)(random),
     };
     for _ in 0..random.pick(&[1, 2, 2, 3, 3, 4, 5, 8]) {
@@ -70,6 +72,7 @@ fn wild_input(random: &mut Random, kind: Kind) -> Input {
 fn wild_length(random: &mut Random) -> usize {
     match random.below(4) {
         0 => random.pick(&[0, 1, 2, 447, 448, 449, 600]),
+        1 | 2 => random.between(448, 500),
         _ => random.below(40),
     }
 }
@@ -122,15 +125,17 @@ fn wild_word(random: &mut Random) -> u64 {
     }
 }
 
-/// A buffer and a mark on all sides of their bounds.
+/// Mostly with room enough; otherwise a buffer and a mark on all sides of
+/// their bounds.
 fn wild_text(random: &mut Random) -> Text {
     let lengths = [0, 1, 40, 300, 32_767, 32_768, 32_800, 33_100, 65_535, 65_536, 65_537, 70_000];
-    let length = random.pick(&lengths);
-    let used = match random.below(12) {
-        0 => length as u64,
-        1 => length as u64 + 1,
-        2 => wild_number(random),
-        _ => random.below(length.min(330) + 1) as u64,
+    let (length, used) = match random.one_in(4) {
+        false => (33_100, random.below(332) as u64),
+        true => {
+            let length = random.pick(&lengths);
+            let marks = [length as u64, length as u64 + 1, wild_number(random)];
+            (length, random.pick(&marks))
+        }
     };
     let stored = used.min(length as u64);
     Text { length, used, stored: (0..stored).map(|_| wild_byte(random)).collect() }

@@ -14,3 +14,4 @@ pub mod planted;
 pub mod rubbish;
 pub mod stand_in;
 pub mod tally;
+pub mod wide;

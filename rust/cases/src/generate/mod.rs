@@ -5,7 +5,7 @@ mod binding;
 mod conditions;
 mod faults;
 mod folding;
-mod inserting;
+pub mod inserting;
 mod joins;
 pub mod nodes;
 mod operators;
