@@ -12,8 +12,9 @@ use cases::random::Random;
 
 const LONG: usize = 1030;
 const KEY: u64 = 1 << 9;
-/// More words than any of these calls writes.
-const MOST_OUTPUT: usize = 1 << 16;
+/// More elements than any of these calls writes.
+const MOST_WORDS: usize = 1 << 13;
+const MOST_PRINTED: usize = 1 << 16;
 
 pub fn wide_call(random: &mut Random) -> Call {
     let draws = [evaluation, row_call, join, insert, on_names, joined_columns];
@@ -30,7 +31,7 @@ fn fit(random: &mut Random, call: &mut Call) {
     if matches!(call.number, FOLD | BIND | WITH) {
         return;
     }
-    call.set_output_length(MOST_OUTPUT);
+    call.set_output_length(if call.number == PRINT { MOST_PRINTED } else { MOST_WORDS });
     let needed = model_answer(call).map_or(0, |answer| answer.output.len());
     call.set_output_length(match random.below(8) {
         0 => needed.saturating_sub(1),
@@ -129,7 +130,7 @@ fn join(random: &mut Random) -> Call {
     let right_width = scene.random.between(1, 32 - left_width);
     let (left_columns, _) = scene.columns(left_width);
     let (right_columns, _) = scene.columns(right_width);
-    let (left_count, right_count) = (scene.random.below(20), scene.random.below(20));
+    let (left_count, right_count) = (scene.random.below(16), scene.random.below(16));
     let left = scene.rows(&left_columns, left_count);
     let right = scene.rows(&right_columns, right_count);
     let mut leaves = bound(&[&left_columns[..], &right_columns].concat());
