@@ -1,10 +1,16 @@
 // What the exported calls return: one struct of four numbers for the answer of every call that gives a refusal number.
 ghost use mathlib.Core.Path.{_≡_};
+ghost use Rattle.keys.specs.Key.{earlierOf};
 ghost use Rattle.answers.specs.Answer.{refusedWith, ofWritten, ofEvaluated, ofShortened, ofJoined};
+ghost use Rattle.answers.specs.Row.{PartIs};
+ghost use Rattle.answers.specs.Earlier.{whichOf, whichEarlier, handed};
+use columns::RowNumber;
 use evaluation::Evaluated;
 use folding::Shortened;
 use heads::Joined;
+use refusals::Checked;
 use refusals::Refusal;
+use slices::Ordering;
 use writing::Written;
 
 // The refusal's number and place, both 0 where the call was accepted; its value, 0 where it was refused; the mark after it.
@@ -14,6 +20,13 @@ pub struct Answer {
     pub place: u64,
     pub value: u64,
     pub used: u64,
+}
+
+// Where a row lies in the caller's rows, in words; both are 0 for the empty part.
+#[repr(C)]
+pub struct Part {
+    pub start: u64,
+    pub length: u64,
 }
 
 // A refused call: the mark is as lent.
@@ -86,4 +99,50 @@ pub fn of_joined(j: Joined, used: usize) -> Answer
             used: mark as u64,
         },
     }
+}
+
+// Where `row`'s part lies.
+pub fn part_of(rows: &[u64], width: usize, number: usize) -> Part
+    ensures { λ p. ⌜ PartIs (now (rows .entry)) width number p ⌝ }
+{
+    let n = tables::row(rows, width, RowNumber(number)).len();
+    if n == 0 {
+        return Part {
+            start: 0,
+            length: 0,
+        };
+    }
+    Part {
+        start: (number * width) as u64,
+        length: n as u64,
+    }
+}
+
+// The number of the row that comes first.
+fn which_of(order: Ordering) -> u64
+    ensures { λ r. ⌜ r ≡ whichOf order ⌝ }
+{
+    match order {
+        Ordering::Less => 1,
+        Ordering::Equal => 1,
+        Ordering::Greater => 2,
+    }
+}
+
+// The number of the row that `earlier` hands back, 0 for the empty part.
+pub fn which_earlier(
+    columns: &[u64],
+    text: &[u8],
+    used: usize,
+    first: &[u64],
+    second: &[u64],
+) -> u64
+    ensures { λ r. ⌜ r ≡ whichEarlier (now (columns .entry)) (now (text .entry)) used (now (first .entry)) (now (second .entry)) ⌝ }
+    ensures { λ r. ⌜ earlierOf (now (columns .entry)) (now (text .entry)) used (now (first .entry)) (now (second .entry)) ≡ handed r (now (first .entry)) (now (second .entry)) ⌝ }
+{
+    let rows = keys::check_rows(columns, text.len(), used, first, second);
+    let Checked::Sound = rows else {
+        return 0;
+    };
+    which_of(keys::compare_keys(columns, &text[..used], first, second))
 }

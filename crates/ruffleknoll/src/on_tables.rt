@@ -1,11 +1,39 @@
 // The calls on one row, two rows, and column tables.
+ghost use mathlib.Core.Path.{_≡_};
 ghost use mathlib.Core.Bool.{true, false};
 ghost use lib.ListN.{length, take};
+ghost use Rattle.keys.specs.Key.{earlierOf};
 ghost use Rattle.heads.specs.Heads.{HeadIs, head};
 ghost use Rattle.heads.specs.declared.Joined.{Joined};
 ghost use Rattle.answers.specs.Answer.{ofJoined};
 ghost use Rattle.answers.specs.Tells.{Tells};
+ghost use Rattle.answers.specs.Row.{PartIs};
+ghost use Rattle.answers.specs.Earlier.{whichEarlier, handed};
 use answers::Answer;
+use answers::Part;
+
+// `row`: where the row's words lie in the rows.
+#[no_mangle]
+pub extern "C" fn ruffleknoll_row(rows: &[u64], width: usize, number: usize) -> Part
+    ensures { λ p. ⌜ PartIs (now (rows .entry)) width number p ⌝ }
+{
+    answers::part_of(rows, width, number)
+}
+
+// `earlier`: 1 or 2 for the row that is handed back, 0 for the empty part.
+#[no_mangle]
+pub extern "C" fn ruffleknoll_earlier(
+    columns: &[u64],
+    text: &[u8],
+    used: usize,
+    first: &[u64],
+    second: &[u64],
+) -> u64
+    ensures { λ r. ⌜ r ≡ whichEarlier (now (columns .entry)) (now (text .entry)) used (now (first .entry)) (now (second .entry)) ⌝ }
+    ensures { λ r. ⌜ earlierOf (now (columns .entry)) (now (text .entry)) used (now (first .entry)) (now (second .entry)) ≡ handed r (now (first .entry)) (now (second .entry)) ⌝ }
+{
+    answers::which_earlier(columns, text, used, first, second)
+}
 
 // `inner_join_columns`: the value is the words written, and the mark moves.
 #[no_mangle]
