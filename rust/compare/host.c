@@ -99,15 +99,15 @@ void *memmove(void *to, const void *from, word length)
 #define WORDS_OUT(i) (word *)a[i], a[i + 1]
 
 /* The calls that read one row, or choose between two. */
-static ruffleknoll_answer read_row(word call, const word *a)
+static struct ruffleknoll_answer read_row(word call, const word *a)
 {
     if (call == 17)
-        return (ruffleknoll_answer){0, 0, ruffleknoll_earlier(WORDS(0), TEXT(2), WORDS(5), WORDS(7)), 0};
-    ruffleknoll_part part = ruffleknoll_row(WORDS(0), a[2], a[3]);
-    return (ruffleknoll_answer){0, 0, part.start, part.length};
+        return (struct ruffleknoll_answer){0, 0, ruffleknoll_earlier(WORDS(0), TEXT(2), WORDS(5), WORDS(7)), 0};
+    struct ruffleknoll_part part = ruffleknoll_row(WORDS(0), a[2], a[3]);
+    return (struct ruffleknoll_answer){0, 0, part.start, part.length};
 }
 
-static ruffleknoll_answer ask(word call, const word *a)
+static struct ruffleknoll_answer ask(word call, const word *a)
 {
     switch (call) {
     case 16:
@@ -147,7 +147,7 @@ static ruffleknoll_answer ask(word call, const word *a)
 #endif
     }
     leave(3);
-    return (ruffleknoll_answer){0};
+    return (struct ruffleknoll_answer){0};
 }
 
 /* A bit for each call that stands above. */
@@ -177,7 +177,7 @@ __attribute__((used)) void start(const word *stack)
     if (!transfer(1, greeting, sizeof greeting))
         leave(2);
     while (transfer(0, &request, sizeof request)) {
-        ruffleknoll_answer answer = ask(request.call, request.arguments);
+        struct ruffleknoll_answer answer = ask(request.call, request.arguments);
         if (!transfer(1, &answer, sizeof answer))
             leave(2);
     }

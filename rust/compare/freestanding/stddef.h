@@ -1,2 +1,0 @@
-/* As stdint.h beside this. */
-typedef unsigned long size_t;
