@@ -32,11 +32,14 @@ pub fn compare(library: &mut dyn Library, seed: u64, count: usize) -> Result<Tal
     Ok(run.tally)
 }
 
-/// The calls of all layers by turns.
+/// The calls of all layers by turns, from the last: the small drawn ones come
+/// before full tables.
 fn made(random: &mut Random) -> Vec<Call> {
     let layers: Vec<Vec<Call>> = LAYERS.iter().map(|layer| (layer.calls)(random)).collect();
     let longest = layers.iter().map(Vec::len).max().unwrap_or(0);
-    let turn = |index: usize| layers.iter().filter_map(move |calls| calls.get(index).cloned());
+    let turn = |index: usize| {
+        layers.iter().filter_map(move |calls| calls.iter().rev().nth(index).cloned())
+    };
     (0..longest).flat_map(turn).collect()
 }
 

@@ -28,7 +28,7 @@ fn main() -> ExitCode {
         Ok(0) => ExitCode::SUCCESS,
         Ok(_) => ExitCode::FAILURE,
         Err(message) => {
-            println!("{message}");
+            eprintln!("{message}");
             ExitCode::FAILURE
         }
     }

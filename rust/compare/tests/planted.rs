@@ -31,11 +31,17 @@ fn every_mistake_is_noticed() {
     }
 }
 
+/// A host that ends at once, and one that greets, with all calls, and ends
+/// when it is asked.
 #[test]
 fn a_host_that_ends_is_told() {
+    let greeting = format!("printf '{}'", [r"\0".repeat(8), r"\377".repeat(8)].concat());
     for (mode, count) in MODES {
-        let (is_well, line) = run(&[mode, "9", count, "--", "true"]);
-        assert!(!is_well, "{line}");
+        assert!(!run(&[mode, "9", count, "--", "true"]).0);
+        let words = [mode, "9", count, "--", "sh", "-c", &greeting];
+        let output = Command::new(env!("CARGO_BIN_EXE_compare")).args(words).output().unwrap();
+        let told = String::from_utf8_lossy(&output.stderr).into_owned();
+        assert!(!output.status.success() && told.contains("the host ended"), "{mode}: {told}");
     }
 }
 
