@@ -2,16 +2,14 @@
 //! with right rows added at random places.
 
 use crate::check::{check, observed, Fault};
+use crate::demand::{check_demand, Entry};
+use crate::growing::{Join, MOST_ROWS};
 use crate::library::Library;
 use crate::rubbish::Rubbish;
 use crate::tally::Tally;
 use cases::answer::model_answer;
-use cases::call::{signature_of, Call, Text, EVALUATE, LEFT_JOIN};
-use cases::generate::nodes::{self, int_word};
-use cases::generate::scene::{bound, Scene, Want};
+use cases::call::{signature_of, Call, EVALUATE, LEFT_JOIN};
 use cases::random::Random;
-
-const MOST_ROWS: usize = 4096;
 
 /// Compares so many pairs of joins; an error where the library is gone.
 pub fn compare(library: &mut dyn Library, seed: u64, count: usize) -> Result<Tally, String> {
@@ -36,71 +34,7 @@ pub fn compare(library: &mut dyn Library, seed: u64, count: usize) -> Result<Tal
     Ok(tally)
 }
 
-/// A right row, and whether it is an added one.
-#[derive(Debug)]
-struct Right {
-    row: Vec<u64>,
-    is_added: bool,
-}
-
-/// Both joins at once. The last column of each side numbers its rows, the
-/// right ones in the order of the new join, so that each line of an answer
-/// tells its pair.
-#[derive(Debug)]
-struct Join {
-    left_columns: Vec<u64>,
-    left: Vec<Vec<u64>>,
-    right_columns: Vec<u64>,
-    right: Vec<Right>,
-    condition: Vec<u8>,
-    text: Text,
-}
-
-/// An entry of a join's list by row numbers; a padded one has no right row.
-#[derive(Clone, Copy, Debug, PartialEq, Eq)]
-pub struct Entry {
-    pub left: usize,
-    pub right: Option<usize>,
-}
-
 impl Join {
-    fn draw(random: &mut Random) -> Join {
-        let mut scene = Scene::new(random);
-        let is_large = scene.random.one_in(300);
-        let [left_columns, right_columns] = [2, 2].map(|most| {
-            let count = if is_large { 1 } else { scene.random.between(1, most) };
-            numbered_columns(&mut scene, count)
-        });
-        let (left_count, old_count, added_count) = match is_large {
-            true => (1, MOST_ROWS - scene.random.below(4), scene.random.below(8)),
-            false => (scene.random.below(6), scene.random.below(6), scene.random.below(5)),
-        };
-        let left = (0..left_count).map(|number| row(&mut scene, &left_columns, number)).collect();
-        let mut is_added = vec![false; old_count];
-        for _ in 0..added_count {
-            let place = scene.random.below(is_added.len() + 1);
-            is_added.insert(place, true);
-        }
-        let mut right = Vec::new();
-        for (number, is_added) in is_added.into_iter().enumerate() {
-            right.push(Right { row: row(&mut scene, &right_columns, number), is_added });
-        }
-        let columns = [&left_columns[..], &right_columns].concat();
-        let condition = condition(&mut scene, &columns, left_columns.len() / 2);
-        let text = scene.text_with_room();
-        Join { left_columns, left, right_columns, right, condition, text }
-    }
-
-    fn call(&self, right: Vec<u64>, room: usize) -> Call {
-        let call = Call::new(LEFT_JOIN).words(&self.left_columns[..]).words(self.left.concat());
-        let call = call.words(&self.right_columns[..]).words(right);
-        call.bytes(&self.condition[..]).text(self.text.clone()).words_out(room)
-    }
-
-    fn width(&self) -> usize {
-        (self.left_columns.len() + self.right_columns.len()) / 2
-    }
-
     /// The refusal number of the new join; nothing where the old one was
     /// not answered.
     fn check(
@@ -224,105 +158,6 @@ impl Join {
         match is_cause {
             true => Ok(number),
             false => Err(Fault::Differs(format!("refused with {number} at {place}"))),
-        }
-    }
-}
-
-/// Columns of a table with one more that numbers its rows.
-fn numbered_columns(scene: &mut Scene, count: usize) -> Vec<u64> {
-    let (mut columns, _) = scene.columns(count);
-    columns.extend([columns[0], 1]);
-    columns
-}
-
-fn row(scene: &mut Scene, columns: &[u64], number: usize) -> Vec<u64> {
-    let mut row = scene.rows(&columns[..columns.len() - 2], 1);
-    row.push(int_word(number as i32));
-    row
-}
-
-/// A comparison of a left and a right column, an operator on Ints over them
-/// that some pairs may not bear, or any condition.
-fn condition(scene: &mut Scene, columns: &[u64], left_count: usize) -> Vec<u8> {
-    let left = nodes::column(scene.random.below(left_count) as u8);
-    let right = nodes::column(scene.random.between(left_count, columns.len() / 2 - 1) as u8);
-    match scene.random.below(4) {
-        0 => nodes::binary(scene.random.between(38, 46) as u8, &left, &right),
-        1 | 2 => nodes::binary(scene.random.between(32, 37) as u8, &left, &right),
-        _ => {
-            let depth = scene.random.pick(&[2, 3, 4]);
-            scene.condition(Want::Truth, &bound(columns), depth)
-        }
-    }
-}
-
-/// What demand 3 says of two answered joins, a line of it after another.
-/// Right rows have the numbers of the new join.
-pub fn check_demand(
-    old: &[Entry],
-    new: &[Entry],
-    is_added: &dyn Fn(usize) -> bool,
-    matches: &[bool],
-) -> Result<(), String> {
-    let unless = |holds: bool, line: &str| match holds {
-        true => Ok(()),
-        false => Err(format!("not so: {line}")),
-    };
-    let is_pair = |entry: &&Entry| entry.right.is_some();
-    let padded = |left: usize| Entry { left, right: None };
-    let mut listed = new.iter();
-    let in_order = old.iter().filter(is_pair).all(|pair| listed.any(|entry| entry == pair));
-    unless(in_order, "every old matched pair is still listed, in the old order")?;
-    let goes = |left: usize| !new.contains(&padded(left));
-    let as_matched = |entry: &Entry| goes(entry.left) == matches[entry.left];
-    let gone = old.iter().filter(|entry| !is_pair(entry)).all(as_matched);
-    unless(gone, "a padded row goes exactly when an added row matches its left row")?;
-    let unpadded = old.iter().filter(is_pair).all(|pair| goes(pair.left));
-    unless(unpadded, "no left row that had a match becomes padded")?;
-    let times = |entry: &Entry, list: &[Entry]| list.iter().filter(|&other| other == entry).count();
-    let is_new = |entry: &&Entry| times(entry, new) > times(entry, old);
-    let added = new.iter().filter(is_new).all(|entry| entry.right.is_some_and(is_added));
-    unless(added, "all that is new are pairs with an added row")
-}
-
-#[cfg(test)]
-mod tests {
-    use super::*;
-
-    fn list(pairs: &[(usize, Option<usize>)]) -> Vec<Entry> {
-        pairs.iter().map(|&(left, right)| Entry { left, right }).collect()
-    }
-
-    /// Three left rows; of the right rows 0 to 3, 1 and 3 are added, and 3
-    /// matches the left row 1.
-    fn demand(new: &[(usize, Option<usize>)]) -> Result<(), String> {
-        let old = list(&[(0, Some(0)), (0, Some(2)), (1, None), (2, None)]);
-        check_demand(&old, &list(new), &|right| right % 2 == 1, &[false, true, false])
-    }
-
-    #[test]
-    fn a_right_answer_passes() {
-        demand(&[(0, Some(0)), (0, Some(2)), (1, Some(3)), (2, None)]).unwrap();
-    }
-
-    /// Each line of the demand is told when it is broken.
-    #[test]
-    fn each_line_can_fail() {
-        let broken: [(&str, &[(usize, Option<usize>)]); 7] = [
-            ("still listed", &[(0, Some(2)), (1, Some(3)), (2, None)]),
-            ("still listed", &[(0, Some(2)), (0, Some(0)), (1, Some(3)), (2, None)]),
-            ("exactly when", &[(0, Some(0)), (0, Some(2)), (1, None), (1, Some(3)), (2, None)]),
-            ("exactly when", &[(0, Some(0)), (0, Some(2)), (1, Some(3))]),
-            ("becomes padded", &[(0, Some(0)), (0, Some(2)), (0, None), (1, Some(3)), (2, None)]),
-            ("all that is new", &[(0, Some(0)), (0, Some(2)), (1, Some(3)), (2, None), (2, None)]),
-            (
-                "all that is new",
-                &[(0, Some(0)), (0, Some(2)), (1, Some(2)), (1, Some(3)), (2, None)],
-            ),
-        ];
-        for (line, new) in broken {
-            let told = demand(new).unwrap_err();
-            assert!(told.contains(line), "{told}");
         }
     }
 }

@@ -4,7 +4,9 @@
 //! from a difference.
 
 pub mod check;
+pub mod demand;
 pub mod drawn;
+pub mod growing;
 pub mod grown;
 pub mod host;
 pub mod hostile;
