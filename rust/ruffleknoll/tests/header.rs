@@ -76,10 +76,16 @@ fn in_archive() -> Calls {
 
 #[test]
 fn the_externs_are_the_headers() {
-    let (header, mut archive) = (in_header(), in_archive());
+    let (mut header, mut archive) = (in_header(), in_archive());
     assert!(header.len() >= 14, "{:?}", header.keys());
     if !header.contains_key("ruffleknoll_insert") {
         archive.remove("ruffleknoll_insert");
+    }
+    // Of insert the types alone: it stands in the archive's module from before the header had names for it.
+    for calls in [&mut header, &mut archive] {
+        if let Some((parameters, _)) = calls.get_mut("ruffleknoll_insert") {
+            parameters.iter_mut().for_each(|(name, _)| name.clear());
+        }
     }
     for (name, declared) in &archive {
         assert_eq!(Some(declared), header.get(name), "{name}");
