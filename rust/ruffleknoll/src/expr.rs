@@ -233,7 +233,7 @@ impl Expr {
         let cells = pool.cells(row.values())?;
         let condition = bound.encode(&mut pool)?;
         let answer = library().evaluate(&condition, &cells, pool.room())?;
-        let scene = Scene { places: Places::Nothing, stored: pool.used(), ..scene };
+        let scene = Scene { places: Places::Nothing, stored: pool.used(), room: true, ..scene };
         pool.value(scene.accepted(answer)?.value)
     }
 
@@ -253,7 +253,8 @@ impl Expr {
         let condition = self.encode(&mut pool)?;
         let mut output = [0; OUTPUT];
         let answer = library().fold(&condition, pool.room(), &mut output)?;
-        self.written(answer, &output, &pool)
+        let scene = Scene { room: true, ..self.scene(&pool) };
+        decoded(scene.accepted(answer)?, &output, &pool)
     }
 
     /// This condition AND another, as a query's `with` called twice joins them in msi.
@@ -269,7 +270,8 @@ impl Expr {
         let (first, second) = (self.encode(&mut pool)?, new.encode(&mut pool)?);
         let mut output = [0; OUTPUT];
         let answer = library().with(&first, &second, pool.stored(), &mut output)?;
-        self.clone().and(new.clone()).written(answer, &output, &pool)
+        let both = self.clone().and(new.clone());
+        decoded(both.scene(&pool).accepted(answer)?, &output, &pool)
     }
 
     /// The condition as msi prints it. A text literal to print must be ASCII.
@@ -298,16 +300,12 @@ impl Expr {
         let text = crate::calls::Stored { bytes: text.bytes, used: text.used };
         let mut output = [0; OUTPUT];
         let answer = library().bind(&named, &columns, text, &mut output)?;
-        let answer = Scene { stored: pool.used(), ..*scene }.accepted(answer)?;
+        let answer = Scene { stored: pool.used(), room: true, ..*scene }.accepted(answer)?;
         decoded(answer, &output, &pool)
     }
 
     fn scene(&self, pool: &Pool) -> Scene<'_> {
         Scene { condition: Some(self), stored: pool.used(), ..Scene::default() }
-    }
-
-    fn written(&self, answer: Answer, output: &[u8], pool: &Pool) -> Result<Expr, Refusal> {
-        decoded(self.scene(pool).accepted(answer)?, output, pool)
     }
 
     pub(crate) fn encode(&self, pool: &mut Pool) -> Result<Vec<u8>, Refusal> {

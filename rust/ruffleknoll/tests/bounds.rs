@@ -38,6 +38,16 @@ fn joins_larger_than_both_sides() {
     assert!(padded.rows().all(|row| row.values()[1..] == [Value::Null, Value::Null]));
 }
 
+/// More than 16 MB, with which the process on other processors starts.
+#[test]
+fn a_very_large_join() {
+    let (left, right) = (table("Left", 1, 1100, int), table("Right", 1, 1000, int));
+    let pairs = left.inner_join(&right, &Expr::integer(1)).unwrap();
+    assert_eq!(pairs.len(), 1_100_000);
+    assert_eq!(pairs.row(1_099_999).unwrap().values(), [int(1099), int(999)]);
+    assert_eq!(left.select(&[], None), Ok(left));
+}
+
 #[test]
 fn as_much_text_as_fits_one_call() {
     let text = |length: usize| move |_| Value::Str("x".repeat(length));
@@ -74,6 +84,20 @@ fn texts_come_back_as_they_were() {
     let nonempty = clues.select(&[], Some(&Expr::col("c0"))).unwrap();
     let found: Vec<_> = nonempty.rows().map(|row| row.values()[0].clone()).collect();
     assert_eq!(found, texts[1..].iter().map(|&text| text.into()).collect::<Vec<Value>>());
+}
+
+/// Printing needs no room above its texts, folding does.
+#[test]
+fn as_much_text_as_fits_a_condition() {
+    let texts =
+        |length: usize| Expr::string("x".repeat(length)).eq(Expr::string("y".repeat(length)));
+    assert_eq!(texts(32_768).print().map(|text| text.len()), Ok(2 * 32_768 + 7));
+    let message = |refusal: ruffleknoll::Refusal| refusal.to_string();
+    let over = "the texts take 65538 bytes: at most 65536 fit one call";
+    assert_eq!(texts(32_769).print().map_err(message), Err(over.to_string()));
+    assert_eq!(texts(16_384).fold().and_then(|folded| folded.print()), Ok("0".to_string()));
+    let over = "the texts take 32770 bytes: at most 32768 fit one call";
+    assert_eq!(texts(16_385).fold().map(|_| ()).map_err(message), Err(over.to_string()));
 }
 
 /// However deep an expression is, it is refused and not crashed on.
