@@ -1,7 +1,7 @@
 //! Select, joins, insert, update and delete, as calls of the library.
 
 use crate::calls::{Answer, Head, Join, Lent, Library, Text};
-use crate::pool::{malformed, Pool};
+use crate::pool::{written, Pool};
 use crate::scene::{Places, Scene};
 use crate::{library, Column, Expr, Refusal, Row, Table, Value};
 
@@ -226,8 +226,7 @@ fn joined_columns(join: Join, tables: [&Table; 2]) -> Result<Vec<Column>, Refusa
     let answer = library().join_columns(join, head(0), head(1), pool.room(), &mut output)?;
     let scene = Scene { places: Places::Columns, tables: &tables, ..Scene::default() };
     let answer = Scene { stored: pool.used(), room: true, ..scene }.accepted(answer)?;
-    let length = usize::try_from(answer.value).map_err(|_| malformed())?;
-    pool.read_columns(output.get(..length).ok_or_else(malformed)?)
+    pool.read_columns(written(&output, answer.value)?)
 }
 
 /// The rows of a join with a bound condition.
