@@ -33,7 +33,7 @@ impl Table {
     /// use ruffleknoll::{Column, Table};
     /// let clues = Table::new("Clue", vec![Column::build("Number").int32()]);
     /// let refusal = clues.with_rows(vec![vec![1.into()], vec![]]).unwrap_err();
-    /// assert_eq!(refusal.to_string(), "Clue 2 has 0 values for 1 columns");
+    /// assert_eq!(refusal.to_string(), "Clue 2 has 0 values, not 1");
     /// ```
     pub fn with_rows(self, rows: Vec<Vec<Value>>) -> Result<Table, Refusal> {
         self.check_lengths(&rows)?;
@@ -45,7 +45,7 @@ impl Table {
         match rows.iter().position(|row| row.len() != columns) {
             None => Ok(()),
             Some(number) => Err(Refusal::unasked(format!(
-                "{} has {} values for {columns} columns",
+                "{} has {} values, not {columns}",
                 self.row_label(number as u64),
                 rows[number].len()
             ))),

@@ -115,11 +115,11 @@ fn a_missing_directory_is_named() {
 #[test]
 fn a_wrong_column_count_is_placed() {
     let line = entries_complaint("few", "2 | down | 1");
-    assert_eq!(line, "entries.txt, line 3, column Column: missing (3 columns of 5)");
+    assert_eq!(line, "entries.txt, line 3, column Column: missing (3 of 5 columns)");
     let line = entries_complaint("many", "\n2 | down | 1 | 3 | OMEGA | x");
     assert_eq!(line, "entries.txt, line 4, column 6: too many (6 columns, not 5)");
     let line = complaint("none", b"", CLUES.as_bytes());
-    assert_eq!(line, "entries.txt, line 1, column Direction: missing (1 columns of 5)");
+    assert_eq!(line, "entries.txt, line 1, column Direction: missing (1 of 5 columns)");
 }
 
 #[test]

@@ -62,9 +62,10 @@ fn numbers_shifts_and_texts_that_grow_too_large() {
     let clues = numbers("Clue", [1, i32::MAX, 40]);
     let more = (number() + Expr::integer(1)).gt(Expr::integer(0));
     refused(clues.select(&[], Some(&more)), 5, "Clue 2: a number outside 32 bits");
-    let entries = numbers("Entry", [0, 5]);
+    let (entries, clues_too) = (numbers("Entry", [0, 5]), numbers("Clue", [1, 40, i32::MAX]));
     let on = Expr::col("Entry.Number") + Expr::col("Clue.Number");
-    refused(entries.inner_join(&clues, &on), 5, "Entry 2 with Clue 2: a number outside 32 bits");
+    let joined = entries.inner_join(&clues_too, &on);
+    refused(joined, 5, "Entry 2 with Clue 3: a number outside 32 bits");
     let shifted = Expr::integer(1) << number();
     let message = "Clue 2: a shift by less than 0 or more than 31";
     refused(clues.delete(Some(&shifted)), 6, message);
@@ -115,7 +116,7 @@ fn texts_that_cannot_be_printed() {
 #[test]
 fn rows_of_another_length_are_not_asked_about() {
     let refusal = numbers("", [1]).with_rows(vec![vec![1.into(), 2.into()]]).unwrap_err();
-    assert_eq!(refusal.to_string(), "row 1 has 2 values for 1 columns");
+    assert_eq!(refusal.to_string(), "row 1 has 2 values, not 1");
     assert_eq!(refusal.number(), None);
 }
 

@@ -88,7 +88,7 @@ fn parts<'a>(line: &'a str, layout: &Layout) -> Result<Vec<&'a str>, String> {
     let parts: Vec<&str> = line.split('|').map(str::trim).collect();
     let (found, wanted) = (parts.len(), layout.len());
     match layout.get(found) {
-        Some((name, _)) => Err(format!("column {name}: missing ({found} columns of {wanted})")),
+        Some((name, _)) => Err(format!("column {name}: missing ({found} of {wanted} columns)")),
         None if found > wanted => {
             Err(format!("column {}: too many ({found} columns, not {wanted})", wanted + 1))
         }
