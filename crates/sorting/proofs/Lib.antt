@@ -2,3 +2,6 @@
 pub mod Reading
 pub mod Lawful
 pub mod Twice
+pub mod Ordered
+pub mod Merging
+pub mod Joined
