@@ -10,10 +10,9 @@ use lib.Seq.{getD-take, getD-drop}
 use denote.Enum.Declared.{tagOf}
 use types.Run.{OneOf, miss}
 use Rattle.slices.specs.declared.Ordering.{Ordering}
-use Rattle.slices.specs.declared.Ordering.the-variants.{Less, Equal, Greater}
+use Rattle.slices.specs.declared.Ordering.the-variants.{Equal}
 use Rattle.slices.proofs.Ordering.{the-type}
 use Rattle.slices.proofs.Pieces.{piece-length}
-use Rattle.cells.specs.Cell.{WellFormed}
 use Rattle.values.specs.Value.{valueOf}
 use Rattle.values.specs.Order.{order}
 use Rattle.rules.specs.Rule.{isKey}
@@ -24,7 +23,7 @@ use Rattle.marking.proofs.Marking.{row-inside}
 use Rattle.keys.specs.Key.{keyOrder}
 use Rattle.keys.specs.Comparable.{Comparable}
 use Rattle.keys.proofs.Turns.{rest, leaves, goes-on, end}
-use Rattle.sorting.specs.Rows.{RowsSound}
+use Rattle.doubles.specs.Doubles.{SearchAsks}
 
 -- ---- a row of a table
 
@@ -32,33 +31,34 @@ use Rattle.sorting.specs.Rows.{RowsSound}
 pub cell-at : (rows : List ℕ) (width i column : ℕ) → column < width → getD (part rows width i) column 0 ≡ getD rows (i * width + column) 0
 cell-at rows width i column h = getD-take width (drop (i * width) rows) column 0 h ∙ getD-drop (i * width) rows column 0
 
-module _ {columns : List ℕ} {used n : ℕ} {rows : List ℕ} (R : RowsSound columns used n rows) (i : ℕ) (h : i < n) where
+module _ (rows : List ℕ) (n width : ℕ) (there : n * width ≤ length rows) (i : ℕ) (h : i < n) where
   -- it is full
-  pub row-full : length (part rows (columnCount columns) i) ≡ columnCount columns
-  row-full = piece-length (i * columnCount columns) (columnCount columns) rows (omega (arith, R .whole, row-inside n (columnCount columns) i h))
+  pub row-full : length (part rows width i) ≡ width
+  row-full = piece-length (i * width) width rows (omega (arith, row-inside n width i h))
 
-  -- a column's cell is among the table's, and well formed
-  pub cell-there : (column : ℕ) → column < columnCount columns → i * columnCount columns + column < length rows
-  cell-there column l = omega (arith, R .whole, row-inside n (columnCount columns) i h)
+  -- a column's cell is among the table's
+  inside : (column : ℕ) → column < width → i * width + column < length rows
+  inside column l = omega (arith, row-inside n width i h)
 
-  pub cell-sound : (column : ℕ) → column < columnCount columns → WellFormed used (getD rows (i * columnCount columns + column) 0)
-  cell-sound column l = R .sound .cells _ (cell-there column l)
-
-  -- and so are all its cells
-  pub row-sound : RowSound used (part rows (columnCount columns) i)
-  row-sound =
+  -- its cells are well formed
+  pub part-sound : {used : ℕ} → RowSound used rows → RowSound used (part rows width i)
+  part-sound sound =
       record {
         cells = λ column l.
-            let k : column < columnCount columns = rw (← row-full) l in
-            rw (cell-at rows (columnCount columns) i column k) (cell-sound column k);
+            let k : column < width = rw (← row-full) l in
+            rw (cell-at rows width i column k) (sound .cells _ (inside column k));
       }
 
-  -- it can be compared with any other row
-  pub row-comparable : (row : List ℕ) → length row ≡ columnCount columns → RowSound used row → Comparable columns used (part rows (columnCount columns) i) row
-  row-comparable row full sound =
-      record { whole = R .paired; first-full = row-full; second-full = full; first-sound = row-sound; second-sound = sound }
-
 -- ---- the search
+
+-- an order that is one of the other two isn't Equal
+not-equal : (o : Ordering) → OneOf (0 ∷ 2 ∷ []) (tagOf the-type o) → o ≡ Equal → ⊥
+not-equal o k e = miss (0 ∷ 2 ∷ []) 1 tt (subst (λ x. OneOf (0 ∷ 2 ∷ []) (tagOf the-type x)) e k)
+
+-- a cell that is compared is there
+pub cell-there : {columns : List ℕ} {used n : ℕ} {rows row : List ℕ} → SearchAsks columns used n rows row → (i : ℕ) → i < n → (column : ℕ) → column < columnCount columns
+    → i * columnCount columns + column < length rows
+cell-there {rows = rows} A i h column l = inside rows _ _ (A .there) i h column l
 
 module _ (columns stored rows row : List ℕ) where
   -- a row has the key that is searched for
@@ -69,11 +69,24 @@ module _ (columns stored rows row : List ℕ) where
   abbrev pub fromColumn : ℕ → ℕ → Ordering
   fromColumn i column = rest columns stored (part rows (columnCount columns) i) row column
 
-  module _ {n : ℕ} (R : RowsSound columns (length stored) n rows) (full : length row ≡ columnCount columns) (sound : RowSound (length stored) row)
-      {i : ℕ} (h : i < n) where
+  module _ {n : ℕ} (A : SearchAsks columns (length stored) n rows row) {i : ℕ} (h : i < n) where
+    -- a row of the table can be compared with the one searched for
+    full : length (part rows (columnCount columns) i) ≡ columnCount columns
+    full = row-full rows n _ (A .there) i h
+
+    comparable : Comparable columns (length stored) (part rows (columnCount columns) i) row
+    comparable =
+        record {
+          whole = A .paired;
+          first-full = full;
+          second-full = A .full;
+          first-sound = part-sound rows n _ (A .there) i h (A .rows-sound);
+          second-sound = A .row-sound;
+        }
+
     -- no column differs
     pub all-equal : {column : ℕ} → columnCount columns ≤ column → keyOrder columns stored (part rows (columnCount columns) i) row ≡ fromColumn i column → HasKey i
-    all-equal {column} l e = e ∙ end columns stored _ row column (omega (arith, row-full R i h))
+    all-equal {column} l e = e ∙ end columns stored _ row column (omega (arith, full))
 
     module _ {column : ℕ} (l : column < columnCount columns) (e : keyOrder columns stored (part rows (columnCount columns) i) row ≡ fromColumn i column)
         (o : Ordering)
@@ -83,12 +96,8 @@ module _ (columns stored rows row : List ℕ) where
       here = rw (cell-at rows (columnCount columns) i column l) f
 
       -- a column that differs tells that the row hasn't the key
-      pub differs : OneOf (0 ∷ 2 ∷ []) (tagOf the-type o) → HasKey i → ⊥
-      differs k q =
-          not-equal o k (sym (leaves columns stored _ row column (row-comparable R i h row full sound) (rw (row-full R i h) l) o here k) ∙ sym e ∙ q)
-        where
-          not-equal : (x : Ordering) → OneOf (0 ∷ 2 ∷ []) (tagOf the-type x) → x ≡ Equal → ⊥
-          not-equal x m z = miss (0 ∷ 2 ∷ []) 1 tt (subst (λ y. OneOf (0 ∷ 2 ∷ []) (tagOf the-type y)) z m)
+      differs : OneOf (0 ∷ 2 ∷ []) (tagOf the-type o) → HasKey i → ⊥
+      differs k q = not-equal o k (sym (leaves columns stored _ row column comparable (rw full l) o here k) ∙ sym e ∙ q)
 
       -- so it is passed by
       pub passed : OneOf (0 ∷ 2 ∷ []) (tagOf the-type o) → ((k : ℕ) → k < i → HasKey k → ⊥) → (k : ℕ) → k < i + 1 → HasKey k → ⊥
@@ -96,4 +105,4 @@ module _ (columns stored rows row : List ℕ) where
 
       -- one that doesn't leaves the later ones
       pub next-column : o ≡ Equal → keyOrder columns stored (part rows (columnCount columns) i) row ≡ fromColumn i (column + 1)
-      next-column q = e ∙ goes-on columns stored _ row column (row-comparable R i h row full sound) (rw (row-full R i h) l) o here q
+      next-column q = e ∙ goes-on columns stored _ row column comparable (rw full l) o here q

@@ -1,110 +1,101 @@
+-- `doubles::equal_row` meets its contract. The outer loop's invariant: no row that was passed has the key. The inner one's: what is known of the row
+-- is what is left of its columns. Assumes nothing.
+use mathlib.Core.Path.{_≡_, refl}
+use Prim.Native.Nat.{ℕ, _-_, _≤_, _<_}
+use native.Mathlib.Omega.{arith}
+use borrow.Author.Count.{below-none}
+use Rattle.tables.specs.Table.{columnCount}
+use Rattle.marking.specs.Marks.{part}
+use Rattle.keys.specs.Key.{keyOrder}
+use Rattle.doubles.proofs.Searching.{cell-there, HasKey, fromColumn, all-equal, passed, next-column}
+use borrow.Author.Needs.{needs}
 use Rattle.doubles.proofs.equal_row.Statement.{statement}
 use Rattle.doubles.proofs.equal_row.Tie as tie
-use Rattle.doubles.proofs.equal_row.Reads as reads
-use Rattle.doubles.proofs.equal_row.Lts as lts
-use Rattle.keys.proofs.compare_column.Reads as compare-column-reads
 
 abbrev Inv-loop : tie.InvT-loop
-Inv-loop columns stored rows n row width i₀ column₀ i column = ?
+Inv-loop columns stored rows n row width i₀ column₀ i column = (i₀ ≤ i) × (i < n) × (column ≤ columnCount columns) × ((k : ℕ) → k < i → HasKey columns stored rows row k → ⊥)
+    × (keyOrder columns stored (part rows (columnCount columns) i) row ≡ fromColumn columns stored rows row i column)
 
 abbrev μ-loop : tie.MeasureT-loop
-μ-loop columns stored rows n row width i₀ column₀ i column = ?
+μ-loop columns stored rows n row width i₀ column₀ i column = columnCount columns - column
 
 abbrev Inv-rows : tie.InvT-rows
-Inv-rows columns stored rows n row width i₀ i = ?
+Inv-rows columns stored rows n row width i₀ i = (i ≤ n) × ((k : ℕ) → k < i → HasKey columns stored rows row k → ⊥)
 
 abbrev μ-rows : tie.MeasureT-rows
-μ-rows columns stored rows n row width i₀ i = ?
+μ-rows columns stored rows n row width i₀ i = n - i
 
--- src/lib.rt:41:5
 rows-holds : tie.Need-rows-holds Inv-loop μ-loop Inv-rows μ-rows
-rows-holds c = ?
+rows-holds c = (search needs, below-none _)
 
--- src/lib.rt:43:9
 loop-holds : tie.Need-loop-holds Inv-loop μ-loop Inv-rows μ-rows
-loop-holds c = ?
+loop-holds c = (omega arith, c .rows-test .taken, omega arith, c .before .rows .inv .1, refl)
 
--- src/lib.rt:45:25
 mul-compare-column : tie.Need-mul-compare-column Inv-loop μ-loop Inv-rows μ-rows
-mul-compare-column c = ?
+mul-compare-column c = omega (arith, c .before .before .before .before .before .before .before .before .pre .paired)
 
--- src/lib.rt:45:25
 add-compare-column : tie.Need-add-compare-column Inv-loop μ-loop Inv-rows μ-rows
-add-compare-column c = ?
+add-compare-column c = omega (arith, c .before .before .before .before .before .before .before .before .pre .paired)
 
--- src/lib.rt:45:17
 mul-compare-column-2 : tie.Need-mul-compare-column-2 Inv-loop μ-loop Inv-rows μ-rows
-mul-compare-column-2 c = ?
+mul-compare-column-2 c = omega (arith, c .before .before .before .before .before .before .before .before .pre .paired)
 
--- src/lib.rt:45:17
 shared-slice-read-compare-column :
     tie.Need-shared-slice-read-compare-column Inv-loop μ-loop Inv-rows μ-rows
-shared-slice-read-compare-column c = ?
+shared-slice-read-compare-column c = omega (arith, c .before .before .before .before .before .before .before .before .before .pre .paired)
 
--- src/lib.rt:46:22
 mul-compare-column-3 : tie.Need-mul-compare-column-3 Inv-loop μ-loop Inv-rows μ-rows
-mul-compare-column-3 c = ?
+mul-compare-column-3 c = omega (arith, cell-there (c .before .before .before .before .before .before .before .before .before .pre) (c .before .before .loop .i) (c .before .before .loop .inv .1) (c .before .before .loop .column) (c .before .loop-test .taken))
 
--- src/lib.rt:46:22
 add-compare-column-2 : tie.Need-add-compare-column-2 Inv-loop μ-loop Inv-rows μ-rows
-add-compare-column-2 c = ?
+add-compare-column-2 c = omega (arith, cell-there (c .before .before .before .before .before .before .before .before .before .pre) (c .before .before .loop .i) (c .before .before .loop .inv .1) (c .before .before .loop .column) (c .before .loop-test .taken))
 
--- src/lib.rt:46:17
 mul-compare-column-4 : tie.Need-mul-compare-column-4 Inv-loop μ-loop Inv-rows μ-rows
-mul-compare-column-4 c = ?
+mul-compare-column-4 c = omega (arith, cell-there (c .before .before .before .before .before .before .before .before .before .pre) (c .before .before .loop .i) (c .before .before .loop .inv .1) (c .before .before .loop .column) (c .before .loop-test .taken))
 
--- src/lib.rt:46:17
 shared-slice-read-compare-column-2 :
     tie.Need-shared-slice-read-compare-column-2 Inv-loop μ-loop Inv-rows μ-rows
-shared-slice-read-compare-column-2 c = ?
+shared-slice-read-compare-column-2 c = omega (arith, cell-there (c .before .before .before .before .before .before .before .before .before .before .pre) (c .before .before .before .loop .i) (c .before .before .before .loop .inv .1) (c .before .before .before .loop .column) (c .before .before .loop-test .taken))
 
--- src/lib.rt:47:17
 mul-compare-column-5 : tie.Need-mul-compare-column-5 Inv-loop μ-loop Inv-rows μ-rows
-mul-compare-column-5 c = ?
+mul-compare-column-5 c = omega (arith, c .before .before .before .before .before .before .before .before .before .before .pre .full)
 
--- src/lib.rt:47:17
 shared-slice-read-compare-column-3 :
     tie.Need-shared-slice-read-compare-column-3 Inv-loop μ-loop Inv-rows μ-rows
-shared-slice-read-compare-column-3 c = ?
+shared-slice-read-compare-column-3 c = omega (arith, c .before .before .before .before .before .before .before .before .before .before .before .pre .full)
 
--- src/lib.rt:44:35
 compare-column-requires : tie.Need-compare-column-requires Inv-loop μ-loop Inv-rows μ-rows
-compare-column-requires c κs = ?
+compare-column-requires c κs = (
+  c .before .before .before .before .before .before .before .before .before .before .before .pre .rows-sound .cells _ (cell-there (c .before .before .before .before .before .before .before .before .before .before .before .pre) _ (c .before .before .before .before .loop .inv .1) _ (c .before .before .before .loop-test .taken)),
+  c .before .before .before .before .before .before .before .before .before .before .before .pre .row-sound .cells _ (omega (arith, c .before .before .before .before .before .before .before .before .before .before .before .pre .full)),
+)
 
 enum-told : tie.Need-enum-told Inv-loop μ-loop Inv-rows μ-rows
-enum-told c = ?
+enum-told c = search needs
 
--- src/lib.rt:50:17
 add-i : tie.Need-add-i Inv-loop μ-loop Inv-rows μ-rows
-add-i c = ?
+add-i c = search needs
 
--- src/lib.rt:41:5
 rows-less : tie.Need-rows-less Inv-loop μ-loop Inv-rows μ-rows
-rows-less c = ?
+rows-less c = search needs
 
--- src/lib.rt:41:5
 rows-again : tie.Need-rows-again Inv-loop μ-loop Inv-rows μ-rows
-rows-again c = ?
+rows-again c = (omega arith, passed _ _ _ _ (c .before .before .before .before .before .before .before .before .before .before .before .before .before .pre) (c .before .before .before .before .before .before .loop .inv .1) (c .before .before .before .before .before .loop-test .taken) (c .before .before .before .before .before .before .loop .inv .4) _ (c .before .compare-column .ensures) (c .match .keys2) (c .before .before .before .before .before .before .loop .inv .3))
 
--- src/lib.rt:53:13
 add-column : tie.Need-add-column Inv-loop μ-loop Inv-rows μ-rows
-add-column c = ?
+add-column c = search needs
 
--- src/lib.rt:43:9
 loop-less : tie.Need-loop-less Inv-loop μ-loop Inv-rows μ-rows
-loop-less c = ?
+loop-less c = search needs
 
--- src/lib.rt:43:9
 loop-again : tie.Need-loop-again Inv-loop μ-loop Inv-rows μ-rows
-loop-again c = ?
+loop-again c = (c .before .before .before .before .before .before .before .loop .inv .0, c .before .before .before .before .before .before .before .loop .inv .1, omega arith, c .before .before .before .before .before .before .before .loop .inv .3, next-column _ _ _ _ (c .before .before .before .before .before .before .before .before .before .before .before .before .before .before .pre) (c .before .before .before .before .before .before .before .loop .inv .1) (c .before .before .before .before .before .before .loop-test .taken) (c .before .before .before .before .before .before .before .loop .inv .4) _ (c .before .before .compare-column .ensures) (c .enum-told .given .1))
 
--- src/lib.rt:35:1
 returns : tie.Need-returns Inv-loop μ-loop Inv-rows μ-rows
-returns c = ?
+returns c = record { within = c .before .rows .inv .0; none-before = c .before .rows .inv .1; equal = λ h. absurd (let z : ⊥ = omega (arith, c .rows-test .left) in z) }
 
--- src/lib.rt:35:1
 returns-2 : tie.Need-returns-2 Inv-loop μ-loop Inv-rows μ-rows
-returns-2 c = ?
+returns-2 c = record { within = omega arith; none-before = c .before .loop .inv .3; equal = λ _. all-equal _ _ _ _ (c .before .before .before .before .before .before .before .before .pre) (c .before .loop .inv .1) (c .loop-test .left) (c .before .loop .inv .4) }
 
 pub equal-row-spec : {M : Type 1} → statement M
 equal-row-spec =
