@@ -23,31 +23,18 @@ use Rattle.marking.proofs.Marking.{row-inside}
 use Rattle.keys.specs.Key.{keyOrder}
 use Rattle.keys.specs.Comparable.{Comparable}
 use Rattle.keys.proofs.Turns.{rest, leaves, goes-on, end}
+use Rattle.sorting.proofs.Reading.{piece-sound}
 use Rattle.doubles.specs.Doubles.{SearchAsks}
 
 -- ---- a row of a table
 
 -- its cells are the table's
-pub cell-at : (rows : List ℕ) (width i column : ℕ) → column < width → getD (part rows width i) column 0 ≡ getD rows (i * width + column) 0
+cell-at : (rows : List ℕ) (width i column : ℕ) → column < width → getD (part rows width i) column 0 ≡ getD rows (i * width + column) 0
 cell-at rows width i column h = getD-take width (drop (i * width) rows) column 0 h ∙ getD-drop (i * width) rows column 0
 
-module _ (rows : List ℕ) (n width : ℕ) (there : n * width ≤ length rows) (i : ℕ) (h : i < n) where
-  -- it is full
-  pub row-full : length (part rows width i) ≡ width
-  row-full = piece-length (i * width) width rows (omega (arith, row-inside n width i h))
-
-  -- a column's cell is among the table's
-  inside : (column : ℕ) → column < width → i * width + column < length rows
-  inside column l = omega (arith, row-inside n width i h)
-
-  -- its cells are well formed
-  pub part-sound : {used : ℕ} → RowSound used rows → RowSound used (part rows width i)
-  part-sound sound =
-      record {
-        cells = λ column l.
-            let k : column < width = rw (← row-full) l in
-            rw (cell-at rows width i column k) (sound .cells _ (inside column k));
-      }
+-- it ends within the table
+ends : (rows : List ℕ) (n width : ℕ) → n * width ≤ length rows → (i : ℕ) → i < n → i * width + width ≤ length rows
+ends rows n width there i h = omega (arith, row-inside n width i h)
 
 -- ---- the search
 
@@ -58,7 +45,7 @@ not-equal o k e = miss (0 ∷ 2 ∷ []) 1 tt (subst (λ x. OneOf (0 ∷ 2 ∷ []
 -- a cell that is compared is there
 pub cell-there : {columns : List ℕ} {used n : ℕ} {rows row : List ℕ} → SearchAsks columns used n rows row → (i : ℕ) → i < n → (column : ℕ) → column < columnCount columns
     → i * columnCount columns + column < length rows
-cell-there {rows = rows} A i h column l = inside rows _ _ (A .there) i h column l
+cell-there {columns} {n = n} {rows} A i h column l = omega (arith, ends rows n (columnCount columns) (A .there) i h)
 
 module _ (columns stored rows row : List ℕ) where
   -- a row has the key that is searched for
@@ -72,7 +59,7 @@ module _ (columns stored rows row : List ℕ) where
   module _ {n : ℕ} (A : SearchAsks columns (length stored) n rows row) {i : ℕ} (h : i < n) where
     -- a row of the table can be compared with the one searched for
     full : length (part rows (columnCount columns) i) ≡ columnCount columns
-    full = row-full rows n _ (A .there) i h
+    full = piece-length (i * columnCount columns) (columnCount columns) rows (ends rows n (columnCount columns) (A .there) i h)
 
     comparable : Comparable columns (length stored) (part rows (columnCount columns) i) row
     comparable =
@@ -80,7 +67,7 @@ module _ (columns stored rows row : List ℕ) where
           whole = A .paired;
           first-full = full;
           second-full = A .full;
-          first-sound = part-sound rows n _ (A .there) i h (A .rows-sound);
+          first-sound = piece-sound (length stored) rows (i * columnCount columns) (columnCount columns) (ends rows n (columnCount columns) (A .there) i h) (A .rows-sound);
           second-sound = A .row-sound;
         }
 

@@ -57,6 +57,26 @@ pub fn equal_row(columns: &[u64], stored: &[u8], rows: &[u64], n: usize, row: &[
     i
 }
 
+// 14 for the first old row that has the key of an earlier one. Rows that stand in strict order have none, and one pass tells it.
+pub fn check_old(columns: &[u64], stored: &[u8], rows: &[u64], n: usize) -> Checked
+    requires { ⌜ RowsSound (now columns) (length (now stored)) n (now rows) ⌝ }
+    ensures { λ r. ⌜ checkedOf r ≡ doubleStop (compareRows (now (columns .entry)) (now (stored .entry)) (now (rows .entry))) 0 n ⌝ }
+{
+    if sorting::is_ascending(columns, stored, rows, n) {
+        return Checked::Sound;
+    }
+    let width = columns.len() / 2;
+    let mut i: usize = 0;
+    while i < n {
+        let start = i * width;
+        if equal_row(columns, stored, rows, i, &rows[start..start + width]) < i {
+            return Checked::Refused(Refusal::KeyTwice(i));
+        }
+        i += 1;
+    }
+    Checked::Sound
+}
+
 // For each new row: 11 where an old row has its key, then 12 where an earlier new one has.
 pub fn check_new(
     columns: &[u64],
