@@ -4,3 +4,4 @@ pub mod Searching
 pub mod Among
 pub mod Joined
 pub mod Stopping
+pub mod Unique

@@ -16,7 +16,6 @@ use Rattle.slices.proofs.Pieces.{piece-length}
 use Rattle.values.specs.Value.{valueOf}
 use Rattle.values.specs.Order.{order}
 use Rattle.rules.specs.Rule.{isKey}
-use Rattle.conditions.specs.Table.{RowSound}
 use Rattle.tables.specs.Table.{columnCount}
 use Rattle.marking.specs.Marks.{part}
 use Rattle.marking.proofs.Marking.{row-inside}

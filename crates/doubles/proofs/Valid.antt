@@ -1,14 +1,14 @@
 -- The new cells from one on: whether it may stand in its column, a turn of a loop over them, and its end. Assumes nothing.
-use mathlib.Core.Path.{_≡_, refl, sym, ap, _∙_}
+use mathlib.Core.Path.{_≡_, sym, ap, _∙_}
 use mathlib.Core.Bool.{Bool, true, false, not}
-use mathlib.Core.List.{List, [], _∷_}
-use Prim.Native.Nat.{ℕ, suc, _+_, _*_, _%_, _≤_, _<_}
+use mathlib.Core.List.{List}
+use Prim.Native.Nat.{ℕ, _+_, _*_, _%_, _≤_, _<_}
 use native.Mathlib.Omega.{arith}
 use native.Mathlib.Nat.{mod-lt}
 use native.Mathlib.Numerals.{add-one}
 use lib.ListN.{length, drop, getD, drop-of-length-le}
 use lib.Seq.{drop-cons}
-use Rattle.refusals.specs.Stop.{Stop, never, stop, stopIf, orElse}
+use Rattle.refusals.specs.Stop.{never, stop, stopIf, orElse}
 use Rattle.cells.specs.Cell.{refOf, Inside}
 use Rattle.cells.specs.declared.ValueRef.{ValueRef}
 use Rattle.cells.proofs.Stops.{well-inside}

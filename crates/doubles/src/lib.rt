@@ -1,7 +1,7 @@
 // What is wrong with the values of new rows, and with the keys of old and new ones.
 ghost use mathlib.Core.Path.{_≡_};
-ghost use mathlib.Core.List.{List, _++_};
-ghost use Prim.Native.Nat.{ℕ, _*_, _≤_, _<_};
+ghost use mathlib.Core.List.{_++_};
+ghost use Prim.Native.Nat.{_*_, _≤_};
 ghost use lib.ListN.{length};
 ghost use Rattle.refusals.specs.Stop.{checkedOf};
 ghost use Rattle.conditions.specs.Table.{RowSound};
