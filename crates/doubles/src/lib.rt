@@ -69,7 +69,8 @@ pub fn check_old(columns: &[u64], stored: &[u8], rows: &[u64], n: usize) -> Chec
     let mut i: usize = 0;
     while i < n {
         let start = i * width;
-        if equal_row(columns, stored, rows, i, &rows[start..start + width]) < i {
+        let earlier = equal_row(columns, stored, rows, i, &rows[start..start + width]);
+        if earlier < i {
             return Checked::Refused(Refusal::KeyTwice(i));
         }
         i += 1;
