@@ -22,6 +22,10 @@ abbrev μ-loop : tie.MeasureT-loop
 there : (c : tie.In-loop Inv-loop μ-loop) → 2 * (c .before .loop .i % columnCount (now (c .before .before .before .before .before .args .columns))) + 1 < length (now (c .before .before .before .before .before .args .columns))
 there c = rule-there (now (c .before .before .before .before .before .args .columns)) (c .before .loop .i) (c .before .before .before .before .before .pre .0) (c .before .before .before .before .before .pre .1)
 
+-- the cell is there
+inside : (c : tie.In-loop Inv-loop μ-loop) → c .before .loop .i < length (now (c .before .before .before .before .before .args .rows))
+inside c = omega (arith, c .loop-test .taken)
+
 loop-holds : tie.Need-loop-holds Inv-loop μ-loop
 loop-holds c = (search needs, refl)
 
@@ -53,7 +57,7 @@ is-valid-value-requires : tie.Need-is-valid-value-requires Inv-loop μ-loop
 is-valid-value-requires c κs = search needs
 
 returns : tie.Need-returns Inv-loop μ-loop
-returns c = sym (c .before .before .before .before .before .before .loop .inv .1 ∙ values-stopped _ _ _ _ (c .before .before .before .before .before .loop-test .taken) (c .before .before .before .before .before .before .before .before .before .before .pre .2) _ (c .before .before .from-word .ensures) _ (c .before .is-valid-value .ensures) (c .if1 .taken))
+returns c = sym (c .before .before .before .before .before .before .loop .inv .1 ∙ values-stopped _ _ _ _ (inside (c .before .before .before .before .before)) (c .before .before .before .before .before .before .before .before .before .before .pre .2) _ (c .before .before .from-word .ensures) _ (c .before .is-valid-value .ensures) (c .if1 .taken))
 
 add-i : tie.Need-add-i Inv-loop μ-loop
 add-i c = search needs
@@ -62,7 +66,7 @@ loop-less : tie.Need-loop-less Inv-loop μ-loop
 loop-less c = search needs
 
 loop-again : tie.Need-loop-again Inv-loop μ-loop
-loop-again c = (search needs, c .before .before .before .before .before .before .loop .inv .1 ∙ values-on _ _ _ _ (c .before .before .before .before .before .loop-test .taken) (c .before .before .before .before .before .before .before .before .before .before .pre .2) _ (c .before .before .from-word .ensures) _ (c .before .is-valid-value .ensures) (c .if1 .left))
+loop-again c = (search needs, c .before .before .before .before .before .before .loop .inv .1 ∙ values-on _ _ _ _ (inside (c .before .before .before .before .before)) (c .before .before .before .before .before .before .before .before .before .before .pre .2) _ (c .before .before .from-word .ensures) _ (c .before .is-valid-value .ensures) (c .if1 .left))
 
 returns-2 : tie.Need-returns-2 Inv-loop μ-loop
 returns-2 c = sym (c .before .loop .inv .1 ∙ values-end _ _ _ _ (c .loop-test .left))
