@@ -1,14 +1,14 @@
 // What is wrong with the values of new rows, and with the keys of old and new ones.
 ghost use mathlib.Core.Path.{_≡_};
-ghost use mathlib.Core.List.{List, _++_};
-ghost use Prim.Native.Nat.{ℕ, _*_, _≤_, _<_};
+ghost use mathlib.Core.List.{_++_};
+ghost use Prim.Native.Nat.{_*_, _≤_};
 ghost use lib.ListN.{length};
 ghost use Rattle.refusals.specs.Stop.{checkedOf};
 ghost use Rattle.conditions.specs.Table.{RowSound};
 ghost use Rattle.tables.specs.Table.{columnCount};
 ghost use Rattle.sorting.specs.Sorted.{doubleStop, newStop};
 ghost use Rattle.sorting.specs.Rows.{compareRows, RowsSound};
-ghost use Rattle.doubles.specs.Doubles.{valuesStop, FirstEqual};
+ghost use Rattle.doubles.specs.Doubles.{valuesStop, SearchAsks, FirstEqual};
 use cells::ValueRef;
 use refusals::Checked;
 use refusals::Refusal;
@@ -31,9 +31,9 @@ pub fn check_values(columns: &[u64], stored: &[u8], rows: &[u64]) -> Checked
     Checked::Sound
 }
 
-// The first of n rows that has the key of a row, or n: a row is left as soon as a key column differs, the search as soon as an equal key is met.
+// The first of so many rows that has the key of a row, or that number: a row is left as soon as a key column differs, the search as soon as an equal key is met.
 pub fn equal_row(columns: &[u64], stored: &[u8], rows: &[u64], n: usize, row: &[u64]) -> usize
-    requires { ⌜ RowsSound (now columns) (length (now stored)) n (now rows) × (length (now row) ≡ columnCount (now columns)) × RowSound (length (now stored)) (now row) ⌝ }
+    requires { ⌜ SearchAsks (now columns) (length (now stored)) n (now rows) (now row) ⌝ }
     ensures { λ r. ⌜ FirstEqual (now (columns .entry)) (now (stored .entry)) (now (rows .entry)) n (now (row .entry)) r ⌝ }
 {
     let width = columns.len() / 2;
@@ -69,7 +69,8 @@ pub fn check_old(columns: &[u64], stored: &[u8], rows: &[u64], n: usize) -> Chec
     let mut i: usize = 0;
     while i < n {
         let start = i * width;
-        if equal_row(columns, stored, rows, i, &rows[start..start + width]) < i {
+        let earlier = equal_row(columns, stored, rows, i, &rows[start..start + width]);
+        if earlier < i {
             return Checked::Refused(Refusal::KeyTwice(i));
         }
         i += 1;
@@ -78,7 +79,14 @@ pub fn check_old(columns: &[u64], stored: &[u8], rows: &[u64], n: usize) -> Chec
 }
 
 // For each new row: 11 where an old row has its key, then 12 where an earlier new one has.
-pub fn check_new(columns: &[u64], stored: &[u8], old: &[u64], m: usize, new: &[u64], n: usize) -> Checked
+pub fn check_new(
+    columns: &[u64],
+    stored: &[u8],
+    old: &[u64],
+    m: usize,
+    new: &[u64],
+    n: usize,
+) -> Checked
     requires { ⌜ RowsSound (now columns) (length (now stored)) m (now old) × RowsSound (now columns) (length (now stored)) n (now new) ⌝ }
     ensures { λ r. ⌜ checkedOf r ≡ newStop (compareRows (now (columns .entry)) (now (stored .entry)) (now (old .entry) ++ now (new .entry))) m 0 n ⌝ }
 {
