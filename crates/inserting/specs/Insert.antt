@@ -19,21 +19,37 @@ use Rattle.doubles.specs.Doubles.{valuesStop}
 abbrev pub rowsIn : List ℕ → List ℕ → ℕ
 rowsIn columns rows = length rows / columnCount columns
 
--- the words of old and new rows in key order, the new rows numbered on after the old ones
-abbrev pub inserted : List ℕ → List ℕ → List ℕ → List ℕ → List ℕ
-inserted columns stored old new =
-    wordsOf (part (old ++ new) (columnCount columns)) (inKeyOrder (compareRows columns stored (old ++ new)) (rowsIn columns old + rowsIn columns new))
+-- the words of m old and n new rows in key order, the new rows numbered on after the old ones
+abbrev pub sortedWords : List ℕ → List ℕ → List ℕ → ℕ → List ℕ → ℕ → List ℕ
+sortedWords columns stored old m new n = wordsOf (part (old ++ new) (columnCount columns)) (inKeyOrder (compareRows columns stored (old ++ new)) (m + n))
 
--- what stops it: 10, counts, words, then 13 over new rows, 14, then for each new row 11 before 12, then 9
-abbrev pub insertStop : List ℕ → List ℕ → List ℕ → List ℕ → ℕ → ℕ → ℕ → Stop
-insertStop columns stored old new size used output =
+abbrev pub inserted : List ℕ → List ℕ → List ℕ → List ℕ → List ℕ
+inserted columns stored old new = sortedWords columns stored old (rowsIn columns old) new (rowsIn columns new)
+
+-- what is looked at first: 10, counts, words
+abbrev pub lentStop : List ℕ → List ℕ → List ℕ → ℕ → ℕ → Stop
+lentStop columns old new size used =
     firstOf
     (roomStop 0 size used
     ∷ countStop (both (isTable columns) (both (areRows (columnCount columns) old) (areRows (columnCount columns) new)))
     ∷ wordsStop used (columns ∷ [] ∷ []) (old ∷ new ∷ [])
-    ∷ valuesStop columns stored 0 new
-    ∷ doubleStop (compareRows columns stored (old ++ new)) 0 (rowsIn columns old)
-    ∷ newStop (compareRows columns stored (old ++ new)) (rowsIn columns old) 0 (rowsIn columns new)
+    ∷ [])
+
+-- then 13 over new rows, 14, and for each new row 11 before 12
+abbrev pub keysStop : List ℕ → List ℕ → List ℕ → ℕ → List ℕ → ℕ → Stop
+keysStop columns stored old m new n =
+    firstOf
+    (valuesStop columns stored 0 new
+    ∷ doubleStop (compareRows columns stored (old ++ new)) 0 m
+    ∷ newStop (compareRows columns stored (old ++ new)) m 0 n
+    ∷ [])
+
+-- what stops it; 9 comes last, with the words that the whole result takes
+abbrev pub insertStop : List ℕ → List ℕ → List ℕ → List ℕ → ℕ → ℕ → ℕ → Stop
+insertStop columns stored old new size used output =
+    firstOf
+    (lentStop columns old new size used
+    ∷ keysStop columns stored old (rowsIn columns old) new (rowsIn columns new)
     ∷ stopIf (ltb output (length (inserted columns stored old new))) 9 (length (inserted columns stored old new))
     ∷ [])
 
