@@ -58,13 +58,13 @@ mul-needed : tie.Need-mul-needed
 mul-needed c = omega (arith, few-words (now (c .before .before .before .before .before .before .before .before .before .before .before .before .args .columns)) (now (c .before .before .before .before .before .before .before .before .before .before .before .before .args .old)) (now (c .before .before .before .before .before .before .before .before .before .before .before .before .args .new)) (now (c .before .before .before .before .before .before .before .before .before .before .before .before .args .text)) (c .before .before .before .before .before .before .before .before .before .before .before .before .args .used) (now (c .before .before .before .before .before .before .before .before .before .before .before .before .args .out)) (passedLent (c .before .before .before .before)))
 
 returns-3 : tie.Need-returns-3
-returns-3 c = insert-short (now (c .before .before .before .before .before .before .before .before .before .before .before .before .before .args .columns)) (now (c .before .before .before .before .before .before .before .before .before .before .before .before .before .args .old)) (now (c .before .before .before .before .before .before .before .before .before .before .before .before .before .args .new)) (now (c .before .before .before .before .before .before .before .before .before .before .before .before .before .args .text)) (c .before .before .before .before .before .before .before .before .before .before .before .before .before .args .used) (now (c .before .before .before .before .before .before .before .before .before .before .before .before .before .args .out)) (passedLent (c .before .before .before .before .before)) (passedKeys (c .before)) (c .if1 .taken)
+returns-3 c = insert-short (now (c .before .before .before .before .before .before .before .before .before .before .before .before .before .args .columns)) (now (c .before .before .before .before .before .before .before .before .before .before .before .before .before .args .old)) (now (c .before .before .before .before .before .before .before .before .before .before .before .before .before .args .new)) (now (c .before .before .before .before .before .before .before .before .before .before .before .before .before .args .text)) (c .before .before .before .before .before .before .before .before .before .before .before .before .before .args .used) (now (c .before .before .before .before .before .before .before .before .before .before .before .before .before .args .out)) (passedLent (c .before .before .before .before .before)) (passedKeys (c .before)) (omega (arith, c .if1 .taken))
 
 slice-aggregate-write-sorted : tie.Need-slice-aggregate-write-sorted
 slice-aggregate-write-sorted c = stored-length (now (c .before .before .before .before .before .before .before .before .before .before .before .before .before .before .args .columns)) (now (c .before .before .before .before .before .before .before .before .before .before .before .before .before .before .args .old)) (now (c .before .before .before .before .before .before .before .before .before .before .before .before .before .before .args .new)) (now (c .before .before .before .before .before .before .before .before .before .before .before .before .before .before .args .text)) (c .before .before .before .before .before .before .before .before .before .before .before .before .before .before .args .used) (now (c .before .before .before .before .before .before .before .before .before .before .before .before .before .before .args .out)) (passedLent (c .before .before .before .before .before .before))
 
 write-sorted-requires : tie.Need-write-sorted-requires
-write-sorted-requires c κs = sort-asks (now (c .before .before .before .before .before .before .before .before .before .before .before .before .before .before .before .args .columns)) (now (c .before .before .before .before .before .before .before .before .before .before .before .before .before .before .before .args .old)) (now (c .before .before .before .before .before .before .before .before .before .before .before .before .before .before .before .args .new)) (now (c .before .before .before .before .before .before .before .before .before .before .before .before .before .before .before .args .text)) (c .before .before .before .before .before .before .before .before .before .before .before .before .before .before .before .args .used) (now (c .before .before .before .before .before .before .before .before .before .before .before .before .before .before .before .args .out)) (passedLent (c .before .before .before .before .before .before .before)) (passedKeys (c .before .before .before)) (c .before .before .if1 .left)
+write-sorted-requires c κs = sort-asks (now (c .before .before .before .before .before .before .before .before .before .before .before .before .before .before .before .args .columns)) (now (c .before .before .before .before .before .before .before .before .before .before .before .before .before .before .before .args .old)) (now (c .before .before .before .before .before .before .before .before .before .before .before .before .before .before .before .args .new)) (now (c .before .before .before .before .before .before .before .before .before .before .before .before .before .before .before .args .text)) (c .before .before .before .before .before .before .before .before .before .before .before .before .before .before .before .args .used) (now (c .before .before .before .before .before .before .before .before .before .before .before .before .before .before .before .args .out)) (passedLent (c .before .before .before .before .before .before .before)) (passedKeys (c .before .before .before)) (omega (arith, c .before .before .if1 .left))
 
 add-t15 : tie.Need-add-t15
 add-t15 c = omega (arith, few-rows (now (c .before .before .before .before .before .before .before .before .before .before .before .before .before .before .before .before .before .before .args .columns)) (now (c .before .before .before .before .before .before .before .before .before .before .before .before .before .before .before .before .before .before .args .old)) (now (c .before .before .before .before .before .before .before .before .before .before .before .before .before .before .before .before .before .before .args .new)) (now (c .before .before .before .before .before .before .before .before .before .before .before .before .before .before .before .before .before .before .args .text)) (c .before .before .before .before .before .before .before .before .before .before .before .before .before .before .before .before .before .before .args .used) (now (c .before .before .before .before .before .before .before .before .before .before .before .before .before .before .before .before .before .before .args .out)) (passedLent (c .before .before .before .before .before .before .before .before .before .before)))
@@ -73,7 +73,7 @@ same-length : tie.Need-same-length
 same-length c = search needs
 
 returns-4 : tie.Need-returns-4
-returns-4 c = insert-written (now (c .before .before .before .before .before .before .before .before .before .before .before .before .before .before .before .before .before .before .args .columns)) (now (c .before .before .before .before .before .before .before .before .before .before .before .before .before .before .before .before .before .before .args .old)) (now (c .before .before .before .before .before .before .before .before .before .before .before .before .before .before .before .before .before .before .args .new)) (now (c .before .before .before .before .before .before .before .before .before .before .before .before .before .before .before .before .before .before .args .text)) (c .before .before .before .before .before .before .before .before .before .before .before .before .before .before .before .before .before .before .args .used) (now (c .before .before .before .before .before .before .before .before .before .before .before .before .before .before .before .before .before .before .args .out)) (passedLent (c .before .before .before .before .before .before .before .before .before .before)) (passedKeys (c .before .before .before .before .before .before)) (c .before .before .before .before .before .if1 .left) _ (c .before .before .write-sorted .ensures)
+returns-4 c = insert-written (now (c .before .before .before .before .before .before .before .before .before .before .before .before .before .before .before .before .before .before .args .columns)) (now (c .before .before .before .before .before .before .before .before .before .before .before .before .before .before .before .before .before .before .args .old)) (now (c .before .before .before .before .before .before .before .before .before .before .before .before .before .before .before .before .before .before .args .new)) (now (c .before .before .before .before .before .before .before .before .before .before .before .before .before .before .before .before .before .before .args .text)) (c .before .before .before .before .before .before .before .before .before .before .before .before .before .before .before .before .before .before .args .used) (now (c .before .before .before .before .before .before .before .before .before .before .before .before .before .before .before .before .before .before .args .out)) (passedLent (c .before .before .before .before .before .before .before .before .before .before)) (passedKeys (c .before .before .before .before .before .before)) (omega (arith, c .before .before .before .before .before .if1 .left)) _ (c .before .before .write-sorted .ensures)
 
 pub insert-spec : {M : Type 1} → statement M
 insert-spec =
