@@ -95,13 +95,6 @@ lent columns old new size used e =
 -- ---- 13, 14, 11, 12
 
 module _ (columns stored old : List ℕ) (m : ℕ) (new : List ℕ) (n : ℕ) where
-  -- none of them stops it
-  pub keys-never : keysStop columns stored old m new n ≡ never → (doubleStop (compareRows columns stored (old ++ new)) 0 m ≡ never) × (newStop (compareRows columns stored (old ++ new)) m 0 n ≡ never)
-  keys-never e =
-      let a = never-both (valuesStop columns stored 0 new) (orElse (doubleStop (compareRows columns stored (old ++ new)) 0 m) (orElse (newStop (compareRows columns stored (old ++ new)) m 0 n) never)) e in
-      let b = never-both (doubleStop (compareRows columns stored (old ++ new)) 0 m) (orElse (newStop (compareRows columns stored (old ++ new)) m 0 n) never) (a .1) in
-      (b .0, last (newStop (compareRows columns stored (old ++ new)) m 0 n) ∙ b .1)
-
   module _ (a : Checked) (f : checkedOf a ≡ valuesStop columns stored 0 new) where
     -- a new value is not valid
     pub values-stop : (r : Refusal) → a ≡ Refused r → checkedOf a ≡ keysStop columns stored old m new n
@@ -124,3 +117,10 @@ module _ (columns stored old : List ℕ) (m : ℕ) (new : List ℕ) (n : ℕ) wh
           ∙ last (newStop (compareRows columns stored (old ++ new)) m 0 n)
           ∙ sym (sound-first b (doubleStop (compareRows columns stored (old ++ new)) 0 m) _ q twice)
           ∙ sym (sound-first a (valuesStop columns stored 0 new) _ e f)
+
+  -- none of them stops it
+  pub keys-never : keysStop columns stored old m new n ≡ never → (doubleStop (compareRows columns stored (old ++ new)) 0 m ≡ never) × (newStop (compareRows columns stored (old ++ new)) m 0 n ≡ never)
+  keys-never e =
+      let a = never-both (valuesStop columns stored 0 new) (orElse (doubleStop (compareRows columns stored (old ++ new)) 0 m) (orElse (newStop (compareRows columns stored (old ++ new)) m 0 n) never)) e in
+      let b = never-both (doubleStop (compareRows columns stored (old ++ new)) 0 m) (orElse (newStop (compareRows columns stored (old ++ new)) m 0 n) never) (a .1) in
+      (b .0, last (newStop (compareRows columns stored (old ++ new)) m 0 n) ∙ b .1)
