@@ -1,4 +1,4 @@
-//! The archive, in a process of its own that `host.c` describes.
+//! The archive, in a process of its own that `rust/host/host.c` describes.
 
 use crate::image::Argument;
 use crate::library::{Answered, Library};

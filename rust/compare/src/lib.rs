@@ -1,6 +1,6 @@
 //! The library's archive compared with the model and the original Rust, on
 //! calls from a seed. The archive is x86-64 code, so it runs in a process of
-//! its own (`host.c`), elsewhere under an emulator; a crash there is told
+//! its own (`rust/host`), elsewhere under an emulator; a crash there is told
 //! from a difference.
 
 pub mod check;
