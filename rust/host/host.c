@@ -145,8 +145,7 @@ static struct ruffleknoll_answer ask(word call, const word *a)
 /* A bit for each call that stands above. */
 static word calls(void)
 {
-    word all = (1ul << 31) - (1ul << 16);
-    return all;
+    return (1ul << 31) - (1ul << 16);
 }
 
 /* The stack has the count of words that the process was called by, then each. */
