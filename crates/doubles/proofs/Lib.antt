@@ -2,6 +2,5 @@
 pub mod Valid
 pub mod Searching
 pub mod Among
-pub mod Joined
 pub mod Stopping
 pub mod Unique

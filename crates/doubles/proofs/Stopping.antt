@@ -13,9 +13,9 @@ use Rattle.keys.specs.Key.{keyOrder}
 use Rattle.sorting.specs.Sorted.{Compare, doubleStop, newStop}
 use Rattle.sorting.specs.Rows.{compareRows, RowsSound}
 use Rattle.sorting.proofs.Reading.{row-full, row-sound}
+use Rattle.sorting.proofs.Joined.{part-old, part-new}
 use Rattle.doubles.specs.Doubles.{SearchAsks, FirstEqual}
 use Rattle.doubles.proofs.Among.{found, not-found, double-turn, new-turn}
-use Rattle.doubles.proofs.Joined.{part-old, part-new}
 
 -- the key of a row of one table may be searched for among the first rows of another, or of the same
 pub search-asks : {columns : List ℕ} {used m n : ℕ} {searched rows : List ℕ} → RowsSound columns used m searched → RowsSound columns used n rows → (i k : ℕ) → i < n → k ≤ m
@@ -53,11 +53,11 @@ module _ (columns stored old : List ℕ) (m : ℕ) (new : List ℕ) (whole : len
 
   -- the new row in the whole
   here : part (old ++ new) (columnCount columns) (m + k) ≡ rowRead new (columnCount columns) k
-  here = part-new old new m (columnCount columns) whole k ∙ sym (row-read new (columnCount columns) k)
+  here = part-new old new (columnCount columns) m whole k ∙ sym (row-read new (columnCount columns) k)
 
   module _ (r : ℕ) (F : FirstEqual columns stored old m (rowRead new (columnCount columns) k) r) where
     old-numbered : (j : ℕ) → j < m → all (0 + j) (m + k) ≡ keyOrder columns stored (part old (columnCount columns) j) (rowRead new (columnCount columns) k)
-    old-numbered j l = rw (zero-add j) (ap₂ (keyOrder columns stored) (part-old old new m (columnCount columns) whole j l) here)
+    old-numbered j l = rw (zero-add j) (ap₂ (keyOrder columns stored) (part-old old new (columnCount columns) m whole j l) here)
 
     -- an old row has its key
     pub taken : r < m → newStop all m k (n - k) ≡ stop 11 k
@@ -65,7 +65,7 @@ module _ (columns stored old : List ℕ) (m : ℕ) (new : List ℕ) (whole : len
 
     module _ (none : m ≤ r) (s : ℕ) (G : FirstEqual columns stored new k (rowRead new (columnCount columns) k) s) where
       new-numbered : (j : ℕ) → j < k → all (m + j) (m + k) ≡ keyOrder columns stored (part new (columnCount columns) j) (rowRead new (columnCount columns) k)
-      new-numbered j l = ap₂ (keyOrder columns stored) (part-new old new m (columnCount columns) whole j) here
+      new-numbered j l = ap₂ (keyOrder columns stored) (part-new old new (columnCount columns) m whole j) here
 
       -- an earlier new row has its key, or none has
       pub repeated : s < k → newStop all m k (n - k) ≡ stop 12 k

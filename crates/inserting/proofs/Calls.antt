@@ -7,12 +7,10 @@ use native.Mathlib.Nat.{add-mul, mul-le-mul}
 use lib.ListN.{length, take, length-append}
 use lib.Seq.{length-take-le}
 use borrow.Author.Tests.{lt-ltb, le-ltb}
-use Rattle.refusals.specs.Stop.{Stop, never, stop, stopOf, orElse}
+use Rattle.refusals.specs.Stop.{Stop, never, stopOf, orElse}
 use Rattle.refusals.specs.declared.Refusal.{Refusal}
 use Rattle.refusals.specs.declared.Refusal.the-variants.{OutputShort}
 use Rattle.slices.specs.Splice.{splice}
-use Rattle.slices.proofs.Splice.{length-splice}
-use Rattle.writing.specs.Writing.{WrittenIs}
 use Rattle.writing.specs.declared.Written.{Written}
 use Rattle.writing.specs.declared.Written.the-variants.{Count, Refused}
 use Rattle.writing.proofs.Answers.{refused-is}

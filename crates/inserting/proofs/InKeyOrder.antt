@@ -3,10 +3,10 @@ use mathlib.Core.Path.{_≡_, sym, ap, _∙_}
 use mathlib.Core.List.{List, _++_}
 use Prim.Native.Nat.{ℕ, _+_}
 use lib.ListN.{length}
-use Rattle.refusals.specs.Stop.{never, orElse}
+use Rattle.refusals.specs.Stop.{never}
 use Rattle.refusals.proofs.First.{never-both}
 use Rattle.slices.specs.Splice.{splice}
-use Rattle.writing.specs.Writing.{WrittenIs, outputAfter}
+use Rattle.writing.specs.Writing.{outputAfter}
 use Rattle.writing.specs.declared.Written.{Written}
 use Rattle.tables.specs.Table.{columnCount}
 use Rattle.marking.specs.RowList.{wordsOf}
@@ -18,7 +18,7 @@ use Rattle.sorting.proofs.Twice.{Distinct, new-never}
 use Rattle.sorting.proofs.Ordered.{order-sorted, sorted-unique}
 use Rattle.sorting.proofs.Joined.{all-lawful}
 use Rattle.inserting.specs.Insert.{rowsIn, inserted, lentStop, keysStop, insertStop, InsertIs}
-use Rattle.inserting.proofs.Passing.{Lent, lent, keys-never}
+use Rattle.inserting.proofs.Passing.{lent, keys-never}
 
 module _ (columns stored old new : List ℕ) (size used output : ℕ) (e : insertStop columns stored old new size used output ≡ never) where
   -- all rows, compared by key

@@ -1,7 +1,7 @@
 -- What is asked where old and new rows are written in key order. Assumes nothing: these are definitions.
 use Prim.Native.Nat.{ℕ, _+_, _*_, _≤_}
 use mathlib.Core.Path.{_≡_}
-use mathlib.Core.List.{List, _++_}
+use mathlib.Core.List.{List}
 use lib.ListN.{length}
 use Rattle.refusals.specs.Stop.{never}
 use Rattle.tables.specs.Table.{columnCount}

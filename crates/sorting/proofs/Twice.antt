@@ -2,14 +2,13 @@
 use mathlib.Core.Path.{_≡_, refl, sym, ap, _∙_}
 use mathlib.Core.Bool.{Bool, true, false, cond}
 use mathlib.Core.Logic.{_⊎_, inl, inr, ⊎-elim}
-use mathlib.Core.List.{List}
 use Prim.Native.Nat.{ℕ, zero, suc, _+_, _-_, _≤_, _<_}
 use native.Mathlib.Nat.{eq-or-lt-of-le}
 use native.Mathlib.Omega.{arith}
-use Rattle.refusals.specs.Stop.{Stop, never, stop, stopIf, orElse}
+use Rattle.refusals.specs.Stop.{never, stopIf, orElse}
 use Rattle.refusals.proofs.First.{never-both}
 use Rattle.slices.specs.declared.Ordering.{Ordering}
-use Rattle.slices.specs.declared.Ordering.the-variants.{Less, Equal, Greater}
+use Rattle.slices.specs.declared.Ordering.the-variants.{Less, Equal}
 use Rattle.sorting.specs.Sorted.{Compare, isLess, isEqual, ascends, keyAmong, doubleStop, newStop}
 use Rattle.sorting.proofs.Lawful.{Lawful, less-equal, less-true, equal-false, equal-true, true-false}
 
