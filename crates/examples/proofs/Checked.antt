@@ -1,7 +1,7 @@
 -- Every example of the table comes out as document 01 says: one test, computed over the whole table, and what it means of an entry. Assumes nothing.
 use mathlib.Core.Path.{_≡_, refl, ap, ap₂}
 use mathlib.Core.Bool.{Bool, true, false}
-use mathlib.Core.List.{List, [], _∷_, List·Memᴰ, List·Memᴰ·cases-cons, List·Memᴰ·not-nil}
+use mathlib.Core.List.{List, [], _∷_, flatten, flatMap, List·Memᴰ, List·Memᴰ·cases-cons, List·Memᴰ·not-nil}
 use mathlib.Core.Logic.{⊎-elim}
 use Prim.Native.Nat.{ℕ}
 use native.Mathlib.Omega.{arith}
@@ -28,6 +28,13 @@ use Rattle.evaluation.specs.Evaluation.{isRowLength, numbersStop, evaluation}
 use Rattle.postfix.specs.Postfix.{little, bodyBytes, bytesOf}
 use Rattle.folding.specs.Fold.{fold}
 use Rattle.folding.specs.Call.{folding}
+use Rattle.rules.specs.Rule.{isRule}
+use Rattle.columns.specs.Column.{isText, nameStop, columnStop, columnsStop}
+use Rattle.tables.specs.Table.{isTable, areRows, columnWordsStop}
+use Rattle.testing.specs.Test.{test}
+use Rattle.marking.specs.RowList.{keptFrom, refusedFrom}
+use Rattle.entries.specs.Entries.{entriesFrom, pairsStop}
+use Rattle.joins.specs.Join.{rowsFrom}
 use Rattle.examples.specs.Example.{Expected, gives, stops, refuses, writes, Example, run, sameAnswer, comesOut}
 use Rattle.examples.specs.Table.{table}
 
@@ -37,7 +44,7 @@ all p (e ∷ es) = both (p e) (all p es)
 
 -- the one proof: the checker computes the definitions over the table
 pub checked : all comesOut table ≡ true
-unfolding comesOut table binaryOf unaryOf compared holds order byBytes sameBytes onKinds onInts fitted toBool fromBool bodiesOf isCell reachesBeyond cellStop wordOf refOf toValue roomStop cellsStop mapTree decides twoSided eval height leafOf rowOf isKind known bodyOf leafWord textFits nodeAt parse isRowLength numbersStop evaluation little bodyBytes bytesOf fold folding
+unfolding comesOut table binaryOf unaryOf compared holds order byBytes sameBytes onKinds onInts fitted toBool fromBool bodiesOf isCell reachesBeyond cellStop wordOf refOf toValue roomStop cellsStop mapTree decides twoSided eval height leafOf rowOf isKind known bodyOf leafWord textFits nodeAt parse isRowLength numbersStop evaluation little bodyBytes bytesOf fold folding isTable areRows rowsFrom columnWordsStop columnsStop columnStop nameStop isText isRule flatten flatMap pairsStop refusedFrom test entriesFrom keptFrom
 checked = refl
 
 no : {X : Type 0} → false ≡ true → X

@@ -3,7 +3,7 @@ use mathlib.Core.List.{List, [], _∷_}
 use lib.IntN.{pos, negsuc}
 use Rattle.values.specs.Value.{Value, null, int, str, binary}
 use Prim.Native.Nat.{ℕ}
-use Rattle.examples.specs.Example.{Call, unary, evaluates, folds, Expected, gives, stops, refuses, writes, Example}
+use Rattle.examples.specs.Example.{Call, unary, evaluates, folds, leftJoins, Expected, gives, stops, refuses, writes, Example}
 
 -- −2147483648
 abbrev lowest : Value
@@ -15,6 +15,20 @@ yes = gives (int (pos 1))
 -- 0 AND (2147483647 + 1): the `+` stands at offset 15
 abbrev guarded : List ℕ
 guarded = 1 ∷ 0 ∷ 0 ∷ 0 ∷ 0 ∷ 1 ∷ 255 ∷ 255 ∷ 255 ∷ 127 ∷ 1 ∷ 1 ∷ 0 ∷ 0 ∷ 0 ∷ 38 ∷ 48 ∷ []
+
+-- the words of Int 1, 2 and 3
+abbrev one : ℕ
+one = 72057594037927937
+
+abbrev two : ℕ
+two = 72057594037927938
+
+abbrev three : ℕ
+three = 72057594037927939
+
+-- the left column = the right column
+abbrev equality : List ℕ
+equality = 4 ∷ 0 ∷ 4 ∷ 1 ∷ 32 ∷ []
 
 unfoldable pub table : List Example
 table =
@@ -34,4 +48,9 @@ table =
     ∷ record { number = 12; call = evaluates guarded (0 ∷ []); answer = gives (int (pos 0)) }
     ∷ record { number = 12; call = folds guarded; answer = refuses 5 15 }
     ∷ record { number = 13; call = folds (0 ∷ 0 ∷ 32 ∷ []); answer = writes (1 ∷ 1 ∷ 0 ∷ 0 ∷ 0 ∷ []) }
+    ∷ record {
+      number = 14;
+      call = leftJoins equality (one ∷ two ∷ three ∷ []) (three ∷ one ∷ one ∷ []);
+      answer = writes (one ∷ one ∷ one ∷ one ∷ two ∷ 0 ∷ three ∷ three ∷ []);
+    }
     ∷ []

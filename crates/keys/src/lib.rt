@@ -2,18 +2,20 @@
 ghost use mathlib.Core.Path.{_≡_};
 ghost use mathlib.Core.Bool.{cond};
 ghost use lib.ListN.{length};
+ghost use Rattle.refusals.specs.Stop.{checkedOf};
 ghost use Rattle.slices.specs.declared.Ordering.the-variants.{Equal};
 ghost use Rattle.cells.specs.Cell.{WellFormed};
 ghost use Rattle.values.specs.Value.{valueOf};
 ghost use Rattle.values.specs.Order.{order};
 ghost use Rattle.rules.specs.Rule.{isKey};
-ghost use Rattle.keys.specs.Key.{keyOrder, pick, earlierOf};
+ghost use Rattle.keys.specs.Key.{keyOrder, pick, rowsStop, earlierOf};
 ghost use Rattle.keys.specs.Comparable.{Comparable};
 use refusals::Checked;
+use refusals::Refusal;
 use slices::Ordering;
 
 // The order of two cells in a column of this rule: Equal where it is no key column.
-fn compare_column(rule: u64, a: u64, b: u64, stored: &[u8]) -> Ordering
+pub fn compare_column(rule: u64, a: u64, b: u64, stored: &[u8]) -> Ordering
     requires { ⌜ WellFormed (length (now stored)) a × WellFormed (length (now stored)) b ⌝ }
     ensures { λ r. ⌜ r ≡ cond (isKey rule) (order (valueOf (now (stored .entry)) a) (valueOf (now (stored .entry)) b)) Equal ⌝ }
 {
@@ -56,6 +58,32 @@ pub fn earlier_row<'a>(
     }
 }
 
+// What would refuse two rows of a table.
+pub fn check_rows(
+    columns: &[u64],
+    size: usize,
+    used: usize,
+    first: &[u64],
+    second: &[u64],
+) -> Checked
+    ensures { λ r. ⌜ checkedOf r ≡ rowsStop (now (columns .entry)) size used (now (first .entry)) (now (second .entry)) ⌝ }
+{
+    let room = checks::check_room(size, used, 0);
+    let Checked::Sound = room else {
+        return room;
+    };
+    if !tables::is_table(columns) {
+        return Checked::Refused(Refusal::Malformed(0));
+    }
+    if first.len() != columns.len() / 2 {
+        return Checked::Refused(Refusal::Malformed(0));
+    }
+    if second.len() != columns.len() / 2 {
+        return Checked::Refused(Refusal::Malformed(0));
+    }
+    tables::check_words(columns, &columns[..0], first, second, used)
+}
+
 // `earlier`: the earlier of two rows of one column table, or the empty part where a call would be refused.
 pub fn earlier<'a>(
     columns: &[u64],
@@ -66,21 +94,8 @@ pub fn earlier<'a>(
 ) -> &'a [u64]
     ensures { λ r. ⌜ now r ≡ earlierOf (now (columns .entry)) (now (text .entry)) used (now (first .entry)) (now (second .entry)) ⌝ }
 {
-    let room = checks::check_room(text.len(), used, 0);
-    let Checked::Sound = room else {
-        return &first[..0];
-    };
-    if !tables::is_table(columns) {
-        return &first[..0];
-    }
-    if first.len() != columns.len() / 2 {
-        return &first[..0];
-    }
-    if second.len() != columns.len() / 2 {
-        return &first[..0];
-    }
-    let words = tables::check_words(columns, &columns[..0], first, second, used);
-    let Checked::Sound = words else {
+    let rows = check_rows(columns, text.len(), used, first, second);
+    let Checked::Sound = rows else {
         return &first[..0];
     };
     earlier_row(columns, &text[..used], first, second)

@@ -17,18 +17,18 @@ pub struct Answer {
 }
 
 /// What a call left behind, before the buffers are looked at.
-struct Outcome {
-    value: u64,
-    used: usize,
-    written: usize,
+pub struct Outcome {
+    pub value: u64,
+    pub used: usize,
+    pub written: usize,
 }
 
 /// The buffers lent to one call.
-struct Lent {
-    text: Vec<u8>,
-    used: usize,
-    bytes_out: Vec<u8>,
-    words_out: Vec<u64>,
+pub struct Lent {
+    pub text: Vec<u8>,
+    pub used: usize,
+    pub bytes_out: Vec<u8>,
+    pub words_out: Vec<u64>,
 }
 
 impl Lent {
@@ -92,7 +92,8 @@ fn answer_over(call: &Call, rubbish: u8) -> Result<Answer, String> {
     }
 }
 
-fn may_write_text(call: &Call) -> bool {
+/// True where the call may write above the mark.
+pub fn may_write_text(call: &Call) -> bool {
     match call.number {
         EVALUATE | FOLD | INNER_JOIN_COLUMNS | LEFT_JOIN_COLUMNS => true,
         SELECT | DELETE | UPDATE | INNER_JOIN | LEFT_JOIN => !call.byte_inputs()[0].is_empty(),
@@ -142,7 +143,8 @@ fn computed_text(lent: &Lent, word: u64) -> Result<Vec<u8>, String> {
     }
 }
 
-fn run(call: &Call, lent: &mut Lent) -> Result<Outcome, Refusal> {
+/// Puts the call to the model, over buffers as they are lent.
+pub fn run(call: &Call, lent: &mut Lent) -> Result<Outcome, Refusal> {
     match call.number {
         COMPARE..=PRINT_VALUE => run_value_call(call, lent),
         ROW | EARLIER => Ok(run_reading_call(call, lent)),

@@ -134,7 +134,8 @@ pub fn seen(call: &Call, answer: &Answer) -> Option<Seen> {
     }
 }
 
-fn is_any_start(word: u64) -> bool {
+/// True for the cell that stands for a computed text, wherever it starts.
+pub fn is_any_start(word: u64) -> bool {
     matches!(model::decode(word), Some(Cell::Text { start, .. }) if start == ANY_START)
 }
 

@@ -233,7 +233,7 @@ pub fn random_insert(random: &mut Random) -> Call {
 }
 
 /// Rows whose values are valid but for one cell in so many (0: any).
-fn rows(scene: &mut Scene, columns: &[u64], count: usize, invalid: usize) -> Vec<u64> {
+pub fn rows(scene: &mut Scene, columns: &[u64], count: usize, invalid: usize) -> Vec<u64> {
     let mut rows = scene.rows(columns, count);
     for (index, word) in rows.iter_mut().enumerate() {
         let rule = columns[2 * (index % (columns.len() / 2)) + 1];

@@ -5,14 +5,14 @@ mod binding;
 mod conditions;
 mod faults;
 mod folding;
-mod inserting;
+pub mod inserting;
 mod joins;
-mod nodes;
+pub mod nodes;
 mod operators;
 mod printing;
 mod rows;
-mod scene;
-mod spoil;
+pub mod scene;
+pub mod spoil;
 mod tables;
 mod values;
 
@@ -50,4 +50,24 @@ pub const LAYERS: &[Layer] = &[
     layer("joins", joins::calls, &[joins::random_join]),
     layer("insert", inserting::calls, &[inserting::random_insert]),
     layer("with", conditions::calls_of_with, &[conditions::random_with]),
+];
+
+/// Draws of document 01's calls. One that draws several calls stands here
+/// once for each, so that all come about equally often.
+pub const DRAWS: &[Draw] = &[
+    tables::random_row,
+    tables::random_choice,
+    conditions::random_evaluation,
+    folding::random_fold,
+    binding::random_bind,
+    conditions::random_with,
+    printing::random_print,
+    tables::random_joined,
+    tables::random_joined,
+    rows::random_call,
+    rows::random_call,
+    rows::random_call,
+    joins::random_join,
+    joins::random_join,
+    inserting::random_insert,
 ];

@@ -21,12 +21,7 @@ pub fn calls(random: &mut Random) -> Vec<Call> {
         calls.extend(joined_buffers(kind));
     }
     for _ in 0..ROWS {
-        let columns = random.pick(&[1, 2, 3, 5]);
-        let words = (0..columns * random.below(6)).map(|_| random.next());
-        let call = Call::new(ROW).words(words.collect::<Vec<u64>>());
-        let mut call = call.number(columns as u64).number(random.below(6) as u64);
-        spoil::sometimes(random, &mut call);
-        calls.push(call);
+        calls.push(random_row(random));
     }
     for _ in 0..CHOICES {
         calls.push(random_choice(random));
@@ -121,6 +116,15 @@ fn broken_choices() -> Vec<Call> {
         calls.push(choice(&key, &[int_word(2)], &[int_word(1)], text));
     }
     calls
+}
+
+pub fn random_row(random: &mut Random) -> Call {
+    let columns = random.pick(&[1, 2, 3, 5]);
+    let words = (0..columns * random.below(6)).map(|_| random.next());
+    let call = Call::new(ROW).words(words.collect::<Vec<u64>>());
+    let mut call = call.number(columns as u64).number(random.below(6) as u64);
+    spoil::sometimes(random, &mut call);
+    call
 }
 
 pub fn random_choice(random: &mut Random) -> Call {

@@ -1,0 +1,4 @@
+pub mod Answer
+pub mod Tells
+pub mod Row
+pub mod Earlier

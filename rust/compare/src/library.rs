@@ -1,0 +1,37 @@
+//! What is compared: something that answers calls over lent memory.
+
+use crate::image::Argument;
+use cases::call::{Signature, ROW, SIGNATURES};
+
+/// What a call hands back: refusal number, place, value, mark. `row` has the
+/// part's start and length as the last two, `earlier` its answer as value.
+pub type Answered = [u64; 4];
+
+pub trait Library {
+    /// Whether the library has a call yet.
+    fn has(&self, call: u8) -> bool;
+
+    /// Puts a call over the memory that its arguments point into; an error
+    /// where there is no answer at all.
+    fn ask(
+        &mut self,
+        call: u8,
+        arguments: &[Argument],
+        memory: &mut [u8],
+    ) -> Result<Answered, String>;
+}
+
+/// The calls of document 01's table.
+pub fn calls() -> impl Iterator<Item = &'static Signature> {
+    SIGNATURES.iter().filter(|signature| signature.number >= ROW)
+}
+
+/// The calls that the library has.
+pub fn present(library: &dyn Library) -> Vec<&'static Signature> {
+    calls().filter(|call| library.has(call.number)).collect()
+}
+
+/// The names of the calls that the library doesn't have.
+pub fn lacking(library: &dyn Library) -> Vec<&'static str> {
+    calls().filter(|call| !library.has(call.number)).map(|call| call.name).collect()
+}
