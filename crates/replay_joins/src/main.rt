@@ -139,6 +139,39 @@ fn select_from(
     )
 }
 
+// Rows and select in turn, where the joined columns are these.
+fn select_rows(
+    outer: bool,
+    columns: &[u64],
+    left_columns: &[u64],
+    left: &[u64],
+    right_columns: &[u64],
+    right: &[u64],
+    on: &[u8],
+    list: &[u64],
+    condition: &[u8],
+    text: &mut [u8],
+    mark: usize,
+    out: &mut [u64],
+) -> Joined {
+    let mut rows = [0u64; 9000];
+    let answer = joined(
+        outer,
+        left_columns,
+        left,
+        right_columns,
+        right,
+        on,
+        text,
+        mark,
+        &mut rows,
+    );
+    let Written::Count(count) = answer else {
+        return marked(answer, mark);
+    };
+    select_from(columns, &rows, count, list, condition, text, mark, out)
+}
+
 // Columns, rows and select in turn, each on what the one before left; the first refusal ends it.
 fn select_joined(
     outer: bool,
@@ -155,8 +188,8 @@ fn select_joined(
     used: usize,
     out: &mut [u64],
 ) -> Joined {
-    let mut columns = [0u64; 64];
-    let first = head(
+    let mut space = [0u64; 64];
+    let answer = head(
         outer,
         left_name,
         left_columns,
@@ -164,33 +197,23 @@ fn select_joined(
         right_columns,
         text,
         used,
-        &mut columns,
+        &mut space,
     );
-    let Joined::Words(words, mark) = first else {
-        return first;
+    let Joined::Words(words, mark) = answer else {
+        return answer;
     };
-    let mut rows = [0u64; 9000];
-    let second = joined(
+    if 64 < words {
+        return Joined::Refused(Refusal::OutputShort(0));
+    }
+    let columns = &space[0..words];
+    select_rows(
         outer,
+        columns,
         left_columns,
         left,
         right_columns,
         right,
         on,
-        text,
-        mark,
-        &mut rows,
-    );
-    let Written::Count(count) = second else {
-        return marked(second, mark);
-    };
-    if 64 < words {
-        return Joined::Refused(Refusal::OutputShort(0));
-    }
-    select_from(
-        &columns[0..words],
-        &rows,
-        count,
         list,
         condition,
         text,
