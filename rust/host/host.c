@@ -16,7 +16,7 @@
 
 typedef unsigned long word;
 
-enum { ARGUMENTS = 15, MEMORY = 1 << 24 };
+enum { ARGUMENTS = 15 };
 
 static struct {
     word call, arguments[ARGUMENTS];
@@ -55,11 +55,12 @@ static int transfer(int number, void *start, word length)
     return 1;
 }
 
-/* Maps the file to read and to write, shared. */
+/* Maps the whole file to read and to write, shared. */
 static word shared_memory(const char *path)
 {
     long file = system_call(2, (long)path, 2, 0, 0, 0);
-    long start = file < 0 ? file : system_call(9, 0, MEMORY, 3, 1, file);
+    long length = file < 0 ? file : system_call(8, file, 0, 2, 0, 0);
+    long start = length < 0 ? length : system_call(9, 0, length, 3, 1, file);
     if (start < 0)
         leave(2);
     return (word)start;

@@ -26,3 +26,13 @@ mod internal {
 
 pub mod driver;
 pub mod plain;
+
+/// What a user of msi meets, by msi's names.
+pub mod msi {
+    pub use crate::driver::Package;
+    pub use crate::internal::column::{Column, ColumnType};
+    pub use crate::internal::expr::Expr;
+    pub use crate::internal::query::{Insert, Select};
+    pub use crate::internal::table::{Row, Rows};
+    pub use crate::internal::value::Value;
+}

@@ -196,8 +196,8 @@ extern "C" {
     fn ruffleknoll_insert(
         columns: *const u64,
         columns_length: u64,
-        rows: *const u64,
-        rows_length: u64,
+        old_rows: *const u64,
+        old_rows_length: u64,
         new_rows: *const u64,
         new_rows_length: u64,
         text: *const u8,

@@ -1,7 +1,7 @@
-use crate::calls::{Answer, Library};
-use crate::pool::{malformed, Pool};
+use crate::calls::{Answer, Library, Stored};
+use crate::pool::{malformed, written, Pool};
 use crate::scene::{Places, Scene};
-use crate::{library, Refusal, Row, Value};
+use crate::{library, Column, Refusal, Row, Value};
 use std::ops;
 
 /// The output that folding, binding and `with` ask for.
@@ -233,7 +233,7 @@ impl Expr {
         let cells = pool.cells(row.values())?;
         let condition = bound.encode(&mut pool)?;
         let answer = library().evaluate(&condition, &cells, pool.room())?;
-        let scene = Scene { places: Places::Nothing, stored: pool.used(), ..scene };
+        let scene = Scene { places: Places::Nothing, stored: pool.used(), room: true, ..scene };
         pool.value(scene.accepted(answer)?.value)
     }
 
@@ -253,7 +253,8 @@ impl Expr {
         let condition = self.encode(&mut pool)?;
         let mut output = [0; OUTPUT];
         let answer = library().fold(&condition, pool.room(), &mut output)?;
-        self.written(answer, &output, &pool)
+        let scene = Scene { room: true, ..self.scene(&pool) };
+        decoded(scene.accepted(answer)?, &output, &pool)
     }
 
     /// This condition AND another, as a query's `with` called twice joins them in msi.
@@ -269,7 +270,8 @@ impl Expr {
         let (first, second) = (self.encode(&mut pool)?, new.encode(&mut pool)?);
         let mut output = [0; OUTPUT];
         let answer = library().with(&first, &second, pool.stored(), &mut output)?;
-        self.clone().and(new.clone()).written(answer, &output, &pool)
+        let both = self.clone().and(new.clone());
+        decoded(both.scene(&pool).accepted(answer)?, &output, &pool)
     }
 
     /// The condition as msi prints it. A text literal to print must be ASCII.
@@ -282,32 +284,26 @@ impl Expr {
             output.resize(usize::try_from(answer.place).map_err(|_| malformed())?, 0);
             answer = library().print(&condition, pool.stored(), &mut output)?;
         }
-        let answer = self.scene(&pool).accepted(answer)?;
-        let length = usize::try_from(answer.value).map_err(|_| malformed())?;
-        let bytes = output.get(..length).ok_or_else(malformed)?;
+        let bytes = written(&output, self.scene(&pool).accepted(answer)?.value)?;
         String::from_utf8(bytes.to_vec()).map_err(|_| malformed())
     }
 
     /// The same with column numbers for names.
-    pub(crate) fn bind(&self, columns: &[crate::Column], scene: &Scene) -> Result<Expr, Refusal> {
+    pub(crate) fn bind(&self, columns: &[Column], scene: &Scene) -> Result<Expr, Refusal> {
         let mut pool = Pool::default();
         let columns = pool.columns(columns)?;
         let named = self.encode(&mut pool)?;
         // Binding asks for the room though it writes none.
         let text = pool.room();
-        let text = crate::calls::Stored { bytes: text.bytes, used: text.used };
+        let text = Stored { bytes: text.bytes, used: text.used };
         let mut output = [0; OUTPUT];
         let answer = library().bind(&named, &columns, text, &mut output)?;
-        let answer = Scene { stored: pool.used(), ..*scene }.accepted(answer)?;
+        let answer = Scene { stored: pool.used(), room: true, ..*scene }.accepted(answer)?;
         decoded(answer, &output, &pool)
     }
 
     fn scene(&self, pool: &Pool) -> Scene<'_> {
         Scene { condition: Some(self), stored: pool.used(), ..Scene::default() }
-    }
-
-    fn written(&self, answer: Answer, output: &[u8], pool: &Pool) -> Result<Expr, Refusal> {
-        decoded(self.scene(pool).accepted(answer)?, output, pool)
     }
 
     pub(crate) fn encode(&self, pool: &mut Pool) -> Result<Vec<u8>, Refusal> {
@@ -333,8 +329,7 @@ impl Expr {
 
 /// The condition that a call wrote.
 fn decoded(answer: Answer, output: &[u8], pool: &Pool) -> Result<Expr, Refusal> {
-    let length = usize::try_from(answer.value).map_err(|_| malformed())?;
-    let mut left = output.get(..length).ok_or_else(malformed)?;
+    let mut left = written(output, answer.value)?;
     let mut nodes = Vec::new();
     while !left.is_empty() {
         let node = Node::decode(left, pool)?;

@@ -10,7 +10,10 @@ use std::path::PathBuf;
 use std::process::{Child, ChildStdin, ChildStdout, Command, Stdio};
 use std::sync::{Mutex, PoisonError};
 
-/// The length of the shared memory.
+/// Each buffer starts at a multiple of a word's bytes.
+const ALIGNED: usize = 8;
+
+/// The shared memory is at least so long.
 const MEMORY: usize = 1 << 24;
 
 /// Every process of ours has one host, started by its first call.
@@ -35,9 +38,10 @@ type Answered = Result<Answer, Refusal>;
 fn ask(call: u64, mut buffers: Vec<Buffer>) -> Answered {
     let mut host = HOST.lock().unwrap_or_else(PoisonError::into_inner);
     let failed = |error: io::Error| Refusal::unasked(format!("the library's process: {error}"));
+    let size: usize = buffers.iter().map(Buffer::size).sum();
     let mut process = match host.take() {
-        Some(process) => process,
-        None => Process::start().map_err(failed)?,
+        Some(process) if size <= process.size => process,
+        _ => Process::start(size.max(MEMORY)).map_err(failed)?,
     };
     // Where this fails the process is ended, and the next call starts another.
     let answer = process.ask(call, &mut buffers).map_err(failed)?;
@@ -50,27 +54,28 @@ struct Process {
     requests: ChildStdin,
     answers: ChildStdout,
     memory: File,
-    /// Where the host has the shared memory.
+    /// The length of the shared memory, and where the host has it.
+    size: usize,
     base: u64,
 }
 
 impl Process {
-    fn start() -> io::Result<Process> {
-        let (path, memory) = shared()?;
-        let started = Process::with(&path, memory);
+    fn start(size: usize) -> io::Result<Process> {
+        let (path, memory) = shared(size)?;
+        let started = Process::with(&path, memory, size);
         // The host has it open; nothing is left behind however this ends.
         std::fs::remove_file(&path)?;
         started
     }
 
-    fn with(path: &PathBuf, memory: File) -> io::Result<Process> {
+    fn with(path: &PathBuf, memory: File, size: usize) -> io::Result<Process> {
         let mut command = Command::new(env!("RUFFLEKNOLL_EMULATOR"));
         command.arg(env!("RUFFLEKNOLL_HOST")).arg(path);
         let mut child = command.stdin(Stdio::piped()).stdout(Stdio::piped()).spawn()?;
         let requests = child.stdin.take().ok_or(io::ErrorKind::BrokenPipe)?;
         let mut answers = child.stdout.take().ok_or(io::ErrorKind::BrokenPipe)?;
         let [base, _calls] = read_words(&mut answers)?;
-        Ok(Process { child, requests, answers, memory, base })
+        Ok(Process { child, requests, answers, memory, size, base })
     }
 
     fn ask(&mut self, call: u64, buffers: &mut [Buffer]) -> io::Result<Answer> {
@@ -96,10 +101,7 @@ impl Process {
             }
             request.extend([self.base + image.len() as u64, buffer.length() as u64]);
             image.extend(buffer.content());
-            image.resize(image.len().next_multiple_of(8), 0);
-        }
-        if image.len() > MEMORY {
-            return Err(io::Error::other(format!("{} bytes, and room for {MEMORY}", image.len())));
+            image.resize(image.len().next_multiple_of(ALIGNED), 0);
         }
         self.memory.write_all_at(&image, 0)?;
         request.resize(16, 0);
@@ -129,6 +131,15 @@ impl Drop for Process {
 }
 
 impl Buffer<'_> {
+    /// The memory that it takes.
+    fn size(&self) -> usize {
+        match self {
+            Bytes(_) | BytesOut(_) => self.length().next_multiple_of(ALIGNED),
+            Words(_) | WordsOut(_) => self.length() * ALIGNED,
+            Number(_) => 0,
+        }
+    }
+
     fn length(&self) -> usize {
         match self {
             Bytes(bytes) => bytes.len(),
@@ -151,8 +162,8 @@ impl Buffer<'_> {
     }
 }
 
-/// A file of the memory's length that nobody else has, one that never reaches a disk where there are such.
-fn shared() -> io::Result<(PathBuf, File)> {
+/// A file of this length that nobody else has, one that never reaches a disk where there are such.
+fn shared(size: usize) -> io::Result<(PathBuf, File)> {
     let memory = PathBuf::from("/dev/shm");
     let directory = if memory.is_dir() { memory } else { std::env::temp_dir() };
     let own = std::process::id();
@@ -160,7 +171,7 @@ fn shared() -> io::Result<(PathBuf, File)> {
         let path = directory.join(format!("ruffleknoll-{own}-{attempt}"));
         match File::options().read(true).write(true).create_new(true).open(&path) {
             Ok(file) => {
-                file.set_len(MEMORY as u64)?;
+                file.set_len(size as u64)?;
                 return Ok((path, file));
             }
             Err(error) if error.kind() == io::ErrorKind::AlreadyExists => {}

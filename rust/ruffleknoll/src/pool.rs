@@ -172,6 +172,12 @@ fn rule(column: &Column) -> u64 {
     kind | nullable | key
 }
 
+/// What a call wrote at the start of its output.
+pub fn written<T>(output: &[T], length: u64) -> Result<&[T], Refusal> {
+    let length = usize::try_from(length).ok();
+    length.and_then(|length| output.get(..length)).ok_or_else(malformed)
+}
+
 /// The library is proved to answer none of this; a broken link to it could.
 pub fn malformed() -> Refusal {
     Refusal::unasked("the library's answer makes no sense")

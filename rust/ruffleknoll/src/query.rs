@@ -1,7 +1,7 @@
 //! Select, joins, insert, update and delete, as calls of the library.
 
-use crate::calls::{Answer, Head, Join, Lent, Library};
-use crate::pool::{malformed, Pool};
+use crate::calls::{Answer, Head, Join, Lent, Library, Text};
+use crate::pool::{written, Pool};
 use crate::scene::{Places, Scene};
 use crate::{library, Column, Expr, Refusal, Row, Table, Value};
 
@@ -33,8 +33,16 @@ impl Ready {
         Ok(Ready { pool, columns, rows, condition })
     }
 
-    fn lent(&self) -> Lent<'_> {
-        Lent { columns: &self.columns, rows: &self.rows }
+    /// What is lent: the table, the bound condition, and the text with the room that it needs.
+    fn lent(&mut self) -> (Lent<'_>, &[u8], Text<'_>) {
+        let table = Lent { columns: &self.columns, rows: &self.rows };
+        (table, &self.condition, self.pool.room_for(&self.condition))
+    }
+
+    /// The call in words, without what only some calls have.
+    fn scene<'a>(&self, condition: Option<&'a Expr>) -> Scene<'a> {
+        let (stored, room) = (self.pool.used(), condition.is_some());
+        Scene { places: Places::Rows, condition, stored, room, ..Scene::default() }
     }
 }
 
@@ -66,11 +74,9 @@ impl Table {
         let list: Vec<u64> = columns.iter().map(number).collect();
         let width = if list.is_empty() { self.columns().len() } else { list.len() };
         let mut output = output_for(self.len(), width);
-        let scene = self.scene(condition, &ready);
-        let scene = Scene { listed: columns, tables: &[self], ..scene };
-        let room = ready.pool.room_for(&ready.condition);
-        let lent = Lent { columns: &ready.columns, rows: &ready.rows };
-        let answer = library().select(lent, &list, &ready.condition, room, &mut output)?;
+        let scene = Scene { tables: &[self], listed: columns, ..ready.scene(condition) };
+        let (lent, bound, text) = ready.lent();
+        let answer = library().select(lent, &list, bound, text, &mut output)?;
         let answer = scene.accepted(answer)?;
         let result = match columns {
             [] => Table::new(self.name(), self.columns().to_vec()),
@@ -82,10 +88,6 @@ impl Table {
     fn listed(&self, list: &[u64]) -> Vec<Column> {
         let column = |number: &u64| self.columns().get(usize::try_from(*number).ok()?).cloned();
         list.iter().filter_map(column).collect()
-    }
-
-    fn scene<'a>(&self, condition: Option<&'a Expr>, ready: &Ready) -> Scene<'a> {
-        Scene { places: Places::Rows, condition, stored: ready.pool.used(), ..Scene::default() }
     }
 
     /// The rows of which the condition is not true: none, without one.
@@ -102,11 +104,9 @@ impl Table {
     pub fn delete(&self, condition: Option<&Expr>) -> Result<Table, Refusal> {
         let mut ready = Ready::new(self, condition)?;
         let mut output = output_for(self.len(), self.columns().len());
-        let scene = self.scene(condition, &ready);
-        let scene = Scene { tables: &[self], ..scene };
-        let room = ready.pool.room_for(&ready.condition);
-        let lent = Lent { columns: &ready.columns, rows: &ready.rows };
-        let answer = library().delete(lent, &ready.condition, room, &mut output)?;
+        let scene = Scene { tables: &[self], ..ready.scene(condition) };
+        let (lent, bound, text) = ready.lent();
+        let answer = library().delete(lent, bound, text, &mut output)?;
         self.result(scene.accepted(answer)?, &output, &ready.pool)
     }
 
@@ -135,11 +135,9 @@ impl Table {
             words.push(ready.pool.cell(value)?);
         }
         let mut output = output_for(self.len(), self.columns().len());
-        let scene = self.scene(condition, &ready);
-        let scene = Scene { tables: &[self], sets, ..scene };
-        let room = ready.pool.room_for(&ready.condition);
-        let lent = Lent { columns: &ready.columns, rows: &ready.rows };
-        let answer = library().update(lent, &words, &ready.condition, room, &mut output)?;
+        let scene = Scene { tables: &[self], sets, ..ready.scene(condition) };
+        let (lent, bound, text) = ready.lent();
+        let answer = library().update(lent, &words, bound, text, &mut output)?;
         self.result(scene.accepted(answer)?, &output, &ready.pool)
     }
 
@@ -163,9 +161,9 @@ impl Table {
         let mut ready = Ready::new(self, None)?;
         let words = ready.pool.cells(new.iter().flatten())?;
         let mut output = output_for(self.len().saturating_add(new.len()), self.columns().len());
-        let scene = self.scene(None, &ready);
-        let scene = Scene { tables: &[self], new_rows: new, ..scene };
-        let answer = library().insert(ready.lent(), &words, ready.pool.stored(), &mut output)?;
+        let scene = Scene { tables: &[self], new_rows: new, ..ready.scene(None) };
+        let lent = Lent { columns: &ready.columns, rows: &ready.rows };
+        let answer = library().insert(lent, &words, ready.pool.stored(), &mut output)?;
         self.result(scene.accepted(answer)?, &output, &ready.pool)
     }
 
@@ -227,9 +225,8 @@ fn joined_columns(join: Join, tables: [&Table; 2]) -> Result<Vec<Column>, Refusa
     let mut output = [0; 2 * COLUMNS];
     let answer = library().join_columns(join, head(0), head(1), pool.room(), &mut output)?;
     let scene = Scene { places: Places::Columns, tables: &tables, ..Scene::default() };
-    let answer = Scene { stored: pool.used(), ..scene }.accepted(answer)?;
-    let length = usize::try_from(answer.value).map_err(|_| malformed())?;
-    pool.read_columns(output.get(..length).ok_or_else(malformed)?)
+    let answer = Scene { stored: pool.used(), room: true, ..scene }.accepted(answer)?;
+    pool.read_columns(written(&output, answer.value)?)
 }
 
 /// The rows of a join with a bound condition.
@@ -244,7 +241,7 @@ fn joined_rows(
     let columns = [pool.columns(left.columns())?, pool.columns(right.columns())?];
     let rows = [pool.rows(left)?, pool.rows(right)?];
     let condition = bound.encode(&mut pool)?;
-    let scene = Scene { places: Places::Rows, stored: pool.used(), ..*scene };
+    let scene = Scene { places: Places::Rows, stored: pool.used(), room: true, ..*scene };
     let sides = [0, 1].map(|side: usize| Lent { columns: &columns[side], rows: &rows[side] });
     let width = left.columns().len() + right.columns().len();
     // Mostly enough; where it isn't, the library says what is.

@@ -29,8 +29,9 @@ pub struct Scene<'a> {
     pub listed: &'a [&'a str],
     pub sets: &'a [(&'a str, Value)],
     pub new_rows: &'a [Vec<Value>],
-    /// The bytes of text that were stored.
+    /// The bytes of text that were stored, and whether room was needed above them.
     pub stored: usize,
+    pub room: bool,
 }
 
 const SIGNS: [&str; 15] =
@@ -174,7 +175,10 @@ impl Scene<'_> {
         });
         let name = usize::try_from(place).ok().and_then(|number| columns.nth(number));
         let length = name.map_or(256, |name| name.len());
-        format!("column {} of the join: a name of {length} bytes, at most 255 fit", place + 1)
+        format!(
+            "column {} of the join: a name of {length} bytes, at most 255 fit",
+            place.saturating_add(1)
+        )
     }
 
     /// The same counts as the library's, for its words alone.
@@ -203,9 +207,7 @@ impl Scene<'_> {
     }
 
     fn too_much_text(&self) -> String {
-        let room =
-            if self.condition.is_some() || self.places == Places::Columns { ROOM } else { 0 };
-        let most = 65_536 - room;
+        let most = if self.room { 65_536 - ROOM } else { 65_536 };
         format!("the texts take {} bytes: at most {most} fit one call", self.stored)
     }
 

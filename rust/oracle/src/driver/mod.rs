@@ -19,6 +19,7 @@ mod conditions;
 mod insert;
 mod join;
 mod nested;
+mod package;
 mod panics;
 mod reader;
 mod select;
@@ -38,6 +39,7 @@ pub use self::conditions::{
 pub use self::insert::{insert, inserted_order};
 pub use self::join::{join, joined_pairs};
 pub use self::nested::{select_over_join, selected_pairs};
+pub use self::package::Package;
 pub use self::select::{select, selected_rows};
 pub use self::store::{read_back, read_back_pool};
 pub use self::values::{
