@@ -1,8 +1,6 @@
 /* The calls of Ruffleknoll, for C and for Rust on x86-64 Linux. `rt staticlib ruffleknoll` proves them and writes
  * target/staticlib/libruffleknoll.a; it needs memcpy and memset of the program that links it, and nothing else.
  *
- * The base has 15 calls. These 14 stand here; ruffleknoll_insert is declared when it is written.
- *
  * Every call answers for any bytes, any numbers and any lengths, and keeps nothing between calls.
  *
  * A slice is a pointer and a length in elements. An empty slice may come with any pointer, null too. One rule is
@@ -159,6 +157,14 @@ struct ruffleknoll_answer ruffleknoll_update(
     const uint64_t *sets, uint64_t sets_length,
     const uint8_t *condition, uint64_t condition_length,
     uint8_t *text, uint64_t text_length, uint64_t used,
+    uint64_t *output, uint64_t output_length);
+
+/* Old and new rows in key order; no key columns: all keys are equal. Text is only read. */
+struct ruffleknoll_answer ruffleknoll_insert(
+    const uint64_t *columns, uint64_t columns_length,
+    const uint64_t *old_rows, uint64_t old_rows_length,
+    const uint64_t *new_rows, uint64_t new_rows_length,
+    const uint8_t *text, uint64_t text_length, uint64_t used,
     uint64_t *output, uint64_t output_length);
 
 #ifdef __cplusplus

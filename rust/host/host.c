@@ -10,9 +10,7 @@
    value, mark; `row` has its start and length as the last two, `earlier` its
    answer as value. It ends with status 0 at the end of its input.
 
-   It needs no C library, so that the kit's compiler is all it takes. The
-   header says which calls there are: HAS_NAME is defined for those of the last
-   three that it has. */
+   It needs no C library, so that the kit's compiler is all it takes. */
 
 #include "ruffleknoll.h"
 
@@ -130,22 +128,16 @@ static struct ruffleknoll_answer ask(word call, const word *a)
         return ruffleknoll_left_join_columns(BYTES(0), WORDS(2), BYTES(4), WORDS(6), TEXT(8), WORDS_OUT(11));
     case 25:
         return ruffleknoll_select(WORDS(0), WORDS(2), WORDS(4), BYTES(6), TEXT(8), WORDS_OUT(11));
-#if HAS_inner_join
     case 26:
         return ruffleknoll_inner_join(WORDS(0), WORDS(2), WORDS(4), WORDS(6), BYTES(8), TEXT(10), WORDS_OUT(13));
-#endif
-#if HAS_left_join
     case 27:
         return ruffleknoll_left_join(WORDS(0), WORDS(2), WORDS(4), WORDS(6), BYTES(8), TEXT(10), WORDS_OUT(13));
-#endif
     case 28:
         return ruffleknoll_delete(WORDS(0), WORDS(2), BYTES(4), TEXT(6), WORDS_OUT(9));
     case 29:
         return ruffleknoll_update(WORDS(0), WORDS(2), WORDS(4), BYTES(6), TEXT(8), WORDS_OUT(11));
-#if HAS_insert
     case 30:
         return ruffleknoll_insert(WORDS(0), WORDS(2), WORDS(4), TEXT(6), WORDS_OUT(9));
-#endif
     }
     leave(3);
     return (struct ruffleknoll_answer){0};
@@ -154,17 +146,7 @@ static struct ruffleknoll_answer ask(word call, const word *a)
 /* A bit for each call that stands above. */
 static word calls(void)
 {
-    word all = (1ul << 31) - (1ul << 16);
-#if !HAS_inner_join
-    all -= 1ul << 26;
-#endif
-#if !HAS_left_join
-    all -= 1ul << 27;
-#endif
-#if !HAS_insert
-    all -= 1ul << 30;
-#endif
-    return all;
+    return (1ul << 31) - (1ul << 16);
 }
 
 /* The stack has the count of words that the process was called by, then each. */

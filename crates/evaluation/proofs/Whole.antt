@@ -87,7 +87,7 @@ joins-map f (leaf w) = refl
 joins-map f (unary op a) = joins-map f a
 joins-map f (binary op a b) = ap₂ (λ x y. x + y + 1) (joins-map f a) (joins-map f b)
 
-leaf-self : (x w : ℕ) → nodeOf x ≡ Leaf w → w ≡ x
+pub leaf-self : (x w : ℕ) → nodeOf x ≡ Leaf w → w ≡ x
 unfolding nodeOf
 leaf-self x w = by (ltb (x / 2 ^ 56) 16) (ltb (x / 2 ^ 56) 32)
   where

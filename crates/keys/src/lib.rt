@@ -15,7 +15,7 @@ use refusals::Refusal;
 use slices::Ordering;
 
 // The order of two cells in a column of this rule: Equal where it is no key column.
-fn compare_column(rule: u64, a: u64, b: u64, stored: &[u8]) -> Ordering
+pub fn compare_column(rule: u64, a: u64, b: u64, stored: &[u8]) -> Ordering
     requires { ⌜ WellFormed (length (now stored)) a × WellFormed (length (now stored)) b ⌝ }
     ensures { λ r. ⌜ r ≡ cond (isKey rule) (order (valueOf (now (stored .entry)) a) (valueOf (now (stored .entry)) b)) Equal ⌝ }
 {

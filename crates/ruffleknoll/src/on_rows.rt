@@ -5,6 +5,7 @@ ghost use Rattle.writing.specs.declared.Written.{Written};
 ghost use Rattle.selecting.specs.Select.{SelectIs, DeleteIs};
 ghost use Rattle.joins.specs.Join.{InnerJoinIs, LeftJoinIs};
 ghost use Rattle.updating.specs.Update.{UpdateIs};
+ghost use Rattle.inserting.specs.Insert.{InsertIs};
 ghost use Rattle.answers.specs.Answer.{ofWritten};
 ghost use Rattle.answers.specs.Tells.{Tells};
 use answers::Answer;
@@ -131,4 +132,20 @@ pub extern "C" fn ruffleknoll_update(
         updating::update(columns, rows, sets, condition, text, used, out),
         used,
     )
+}
+
+// `insert`: old and new rows stand under one lifetime, since the earlier of two is handed on as lent.
+#[no_mangle]
+pub extern "C" fn ruffleknoll_insert<'a>(
+    columns: &[u64],
+    old: &'a [u64],
+    new: &'a [u64],
+    text: &[u8],
+    used: usize,
+    out: &mut [u64],
+) -> Answer
+    ensures { λ r. ⌜ Tells Written (ofWritten used) (λ w. InsertIs (now (columns .entry)) (take used (now (text .entry))) (now (old .entry)) (now (new .entry))
+        (length (now (text .entry))) used (now (out .entry)) (now (out .exit)) w) r ⌝ }
+{
+    answers::of_written(inserting::insert(columns, old, new, text, used, out), used)
 }

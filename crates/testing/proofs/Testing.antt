@@ -50,7 +50,7 @@ module _ (used n : ℕ) (nodes row text : List ℕ) where
     test-asks = asks base (omega arith) b row text (A .bytes) used n nodes (A .long) (prepared-for b A m)
 
     -- the test is what evaluation comes to
-    test-is : test base b used (take used text) row ≡ testedOf (eval base (rowOf (take used text) row) (treeOf (take used text) 16 nodes (n - 1)))
+    pub test-is : test base b used (take used text) row ≡ testedOf (eval base (rowOf (take used text) row) (treeOf (take used text) 16 nodes (n - 1)))
     test-is = by b A (prepared-for b A m)
       where
         by : (b : List ℕ) → TestAsks b used n nodes row text → PreparedIs b row (length text) used nodes (Table n)

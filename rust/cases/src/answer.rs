@@ -6,6 +6,9 @@ use model::{Cell, Earlier, Refusal};
 /// The start that marks a computed text, whose real start is not fixed.
 pub const ANY_START: u64 = 0xffff_ffff;
 
+/// The output that a join has on the way to a select.
+pub const JOINED_WORDS: usize = 9000;
+
 #[derive(Clone, Debug, PartialEq, Eq)]
 pub struct Answer {
     pub number: u64,
@@ -96,6 +99,7 @@ fn answer_over(call: &Call, rubbish: u8) -> Result<Answer, String> {
 pub fn may_write_text(call: &Call) -> bool {
     match call.number {
         EVALUATE | FOLD | INNER_JOIN_COLUMNS | LEFT_JOIN_COLUMNS => true,
+        SELECT_INNER_JOIN | SELECT_LEFT_JOIN => true,
         SELECT | DELETE | UPDATE | INNER_JOIN | LEFT_JOIN => !call.byte_inputs()[0].is_empty(),
         _ => false,
     }
@@ -150,6 +154,7 @@ pub fn run(call: &Call, lent: &mut Lent) -> Result<Outcome, Refusal> {
         ROW | EARLIER => Ok(run_reading_call(call, lent)),
         EVALUATE..=PRINT => run_condition_call(call, lent),
         INNER_JOIN_COLUMNS | LEFT_JOIN_COLUMNS => run_column_call(call, lent),
+        SELECT_INNER_JOIN | SELECT_LEFT_JOIN => run_nested_call(call, lent),
         _ => run_row_call(call, lent),
     }
 }
@@ -241,6 +246,29 @@ fn run_column_call(call: &Call, lent: &mut Lent) -> Result<Outcome, Refusal> {
     let (text, output) = (&mut lent.text, &mut lent.words_out);
     let written = joined(bytes[0], words[0], bytes[1], words[1], text, lent.used, output)?;
     Ok(Outcome { value: written.count as u64, used: written.used, written: written.count })
+}
+
+/// Columns, rows and select in turn, each on what the one before left.
+fn run_nested_call(call: &Call, lent: &mut Lent) -> Result<Outcome, Refusal> {
+    let (names, words) = (call.byte_inputs(), call.word_inputs());
+    let [left, left_rows, right, right_rows, list] = words[..] else { unreachable!() };
+    let joined_columns = match call.number {
+        SELECT_INNER_JOIN => model::inner_join_columns,
+        _ => model::left_join_columns,
+    };
+    let join = match call.number {
+        SELECT_INNER_JOIN => model::inner_join,
+        _ => model::left_join,
+    };
+    let (text, mut columns, mut rows) = (&mut lent.text, vec![0; 64], vec![0; JOINED_WORDS]);
+    let head = joined_columns(names[0], left, names[1], right, text, lent.used, &mut columns)?;
+    let used = head.used;
+    let count = join(left, left_rows, right, right_rows, names[2], text, used, &mut rows)?;
+    let width = head.count / 2;
+    let (columns, rows) = (&columns[..head.count], &rows[..count * width]);
+    let count = model::select(columns, rows, list, names[3], text, used, &mut lent.words_out)?;
+    let width = if list.is_empty() { width } else { list.len() };
+    Ok(Outcome { value: count as u64, used, written: count * width })
 }
 
 fn run_row_call(call: &Call, lent: &mut Lent) -> Result<Outcome, Refusal> {

@@ -66,6 +66,8 @@ pub const LEFT_JOIN: u8 = 27;
 pub const DELETE: u8 = 28;
 pub const UPDATE: u8 = 29;
 pub const INSERT: u8 = 30;
+pub const SELECT_INNER_JOIN: u8 = 31;
+pub const SELECT_LEFT_JOIN: u8 = 32;
 
 use Kind::*;
 
@@ -77,6 +79,9 @@ const fn signature(
 ) -> Signature {
     Signature { number, name, inputs, gives_words }
 }
+
+const NESTED: &[Kind] =
+    &[Bytes, Words, Words, Bytes, Words, Words, Bytes, Words, Bytes, Text, WordsOut];
 
 pub const SIGNATURES: &[Signature] = &[
     signature(COMPARE, "compare", &[Number, Number, Text], false),
@@ -112,6 +117,8 @@ pub const SIGNATURES: &[Signature] = &[
     signature(DELETE, "delete", &[Words, Words, Bytes, Text, WordsOut], true),
     signature(UPDATE, "update", &[Words, Words, Words, Bytes, Text, WordsOut], true),
     signature(INSERT, "insert", &[Words, Words, Words, Text, WordsOut], true),
+    signature(SELECT_INNER_JOIN, "select over inner_join", NESTED, true),
+    signature(SELECT_LEFT_JOIN, "select over left_join", NESTED, true),
 ];
 
 pub fn signature_of(number: u8) -> Option<&'static Signature> {

@@ -95,6 +95,28 @@ fn missing_columns() {
     assert_eq!(ways(&join.bytes([4, 2]).text(text(b"a")).words_out(1)), [0, 0]);
 }
 
+/// A select over a join is asked with the names' room and within the bounds
+/// of what select is lent.
+#[test]
+fn select_over_a_join() {
+    let column = [TEXT | 1, 1];
+    let nested = |left: usize, condition: &[u8], above: usize| {
+        let rows = vec![INT | 3; left];
+        let call = Call::new(SELECT_LEFT_JOIN).bytes(*b"T").words(column).words(rows);
+        let call = call.bytes(*b"T").words(column).words([INT; 65]);
+        let text = Text { length: 1 + 32_768 + above, used: 1, stored: b"a".to_vec() };
+        call.bytes([1, 1, 0, 0, 0]).words([0]).bytes(condition).text(text).words_out(64 * 65)
+    };
+    assert_eq!(ways(&nested(1, &[], 6)), [4, 4]);
+    assert_eq!(ways(&nested(1, &[], 5)), [0, 0]);
+    assert_eq!(ways(&nested(63, &[4, 1], 6)), [4, 4]);
+    assert_eq!(ways(&nested(64, &[4, 1], 6)), [0, 0]);
+    let late = [4, 0, 1, 253, 255, 255, 127, 38];
+    let expected = Seen::Refused { number: 5, place: Some(0) };
+    let answers = originals()[1].answers(&nested(2, &late, 6));
+    assert!(answers.len() == 4 && answers.iter().all(|answer| *answer == expected));
+}
+
 /// Another answer, which differs in something that can be seen.
 fn falsified(call: &Call, answer: &Answer) -> Answer {
     let mut wrong = answer.clone();

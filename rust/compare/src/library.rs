@@ -1,7 +1,7 @@
 //! What is compared: something that answers calls over lent memory.
 
 use crate::image::Argument;
-use cases::call::{Signature, ROW, SIGNATURES};
+use cases::call::{Signature, INSERT, ROW, SIGNATURES};
 
 /// What a call hands back: refusal number, place, value, mark. `row` has the
 /// part's start and length as the last two, `earlier` its answer as value.
@@ -21,9 +21,9 @@ pub trait Library {
     ) -> Result<Answered, String>;
 }
 
-/// The calls of document 01's table.
+/// The calls of document 01's table; the recorded ones beyond them are several calls in turn.
 pub fn calls() -> impl Iterator<Item = &'static Signature> {
-    SIGNATURES.iter().filter(|signature| signature.number >= ROW)
+    SIGNATURES.iter().filter(|signature| (ROW..=INSERT).contains(&signature.number))
 }
 
 /// The calls that the library has.

@@ -60,6 +60,18 @@ pub enum JoinKind {
     Left,
 }
 
+/// A select over a join. Its list and both conditions name columns as the
+/// join does.
+#[derive(Clone, Debug)]
+pub struct Nested {
+    pub kind: JoinKind,
+    pub left: TableSpec,
+    pub right: TableSpec,
+    pub on: Tree,
+    pub list: Vec<String>,
+    pub condition: Option<Tree>,
+}
+
 /// What the Rust said.
 #[derive(Clone, Debug, Eq, PartialEq)]
 pub enum Said<T> {

@@ -2,6 +2,7 @@
 
 use super::conditions::some_forms;
 use super::faults;
+use super::nested;
 use super::nodes::{self, *};
 use super::scene::{bound, fit_output, plain_text, texts_at_bounds, Scene, Want};
 use super::spoil;
@@ -20,10 +21,12 @@ pub fn calls(random: &mut Random) -> Vec<Call> {
         calls.extend(joined_texts(kind));
         calls.extend(some_forms().iter().map(|form| small(kind, form)));
         calls.extend(faulty_words(kind));
+        calls.extend(full(kind));
     }
     for _ in 0..RANDOM {
         calls.push(random_join(random));
     }
+    calls.extend(nested::calls(random));
     calls
 }
 
@@ -88,12 +91,14 @@ fn counts(kind: u8) -> Vec<Call> {
         given.right_rows = vec![int_word(2); right];
         calls.push(given.call(kind, plain_text(LETTERS, ROOM), left + right));
     }
-    for (left, right) in [(4096, 1), (4097, 1), (1, 4096), (1, 4097)] {
+    // Rows 0 and 3,000 of the longer side have a pair.
+    let rows = |count| -> Vec<u64> { (0..count).map(|n| int_word(n % 3000 + 5)).collect() };
+    // To keep the sample small, each kind has one too many on one side only.
+    let many = if kind == LEFT_JOIN { (4097, 1) } else { (1, 4097) };
+    for (left, right) in [(4096, 1), (1, 4096), many] {
         let mut given = plain(&equality());
-        given.left_rows = ints(&[5]).repeat(left);
-        given.right_rows = (0..right).map(|number| int_word(number % 3000 + 5)).collect();
-        // One word short of the greatest result, which is large to store.
-        calls.push(given.call(kind, room(), 8191));
+        (given.left_rows, given.right_rows) = (rows(left), rows(right));
+        calls.push(given.call(kind, room(), 8192));
     }
     for part in 0..4 {
         let mut given = plain(&equality());
@@ -105,6 +110,26 @@ fn counts(kind: u8) -> Vec<Call> {
         }
         calls.push(given.call(kind, room(), 20));
     }
+    calls
+}
+
+/// As many pairs as a table may have rows, and one word of output too few;
+/// refusals in a late pair, after pairs that are listed.
+fn full(kind: u8) -> Vec<Call> {
+    let rows = |count| -> Vec<u64> { (0..count).map(int_word).collect() };
+    let mut given = plain(&nodes::int(1));
+    (given.left_rows, given.right_rows) = (rows(64), rows(64));
+    let mut calls = vec![given.call(kind, room(), 8191)];
+    (given.left_rows, given.right_rows) = (rows(16), rows(16));
+    let sum = binary(PLUS, &nodes::column(0), &nodes::column(1));
+    // Over the greatest Int from 14 + 15 on.
+    given.condition = binary(PLUS, &sum, &nodes::int(i32::MAX - 28));
+    calls.push(given.call(kind, room(), 512));
+    // An amount of 32 where 15 stands on both sides.
+    let is_last = binary(EQUAL, &sum, &nodes::int(30));
+    let amount = binary(40, &is_last, &nodes::int(32));
+    given.condition = binary(SHIFT_LEFT, &nodes::int(1), &amount);
+    calls.push(given.call(kind, room(), 512));
     calls
 }
 

@@ -7,6 +7,7 @@ mod faults;
 mod folding;
 pub mod inserting;
 mod joins;
+mod nested;
 pub mod nodes;
 mod operators;
 mod printing;
@@ -47,7 +48,7 @@ pub const LAYERS: &[Layer] = &[
     layer("print", printing::calls, &[printing::random_print, printing::random_value]),
     layer("tables", tables::calls, &[tables::random_choice, tables::random_joined]),
     layer("rows", rows::calls, &[rows::random_call]),
-    layer("joins", joins::calls, &[joins::random_join]),
+    layer("joins", joins::calls, &[joins::random_join, nested::random_nested]),
     layer("insert", inserting::calls, &[inserting::random_insert]),
     layer("with", conditions::calls_of_with, &[conditions::random_with]),
 ];

@@ -6,8 +6,8 @@ use crate::seen::{text_at, value_at, Expression, Value};
 use oracle::plain::{Cell, ColumnSpec, Row, TableSpec, Tree};
 
 const MOST_TEXT: u64 = 65_536;
-const ROOM: u64 = 32_768;
-const MOST_ROWS: usize = 4096;
+pub const ROOM: u64 = 32_768;
+pub const MOST_ROWS: usize = 4096;
 const MOST_JOINED_TEXT: usize = 1024;
 pub const MOST_COLUMNS: usize = 32;
 /// What folding and `with` need as output.

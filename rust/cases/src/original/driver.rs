@@ -3,7 +3,7 @@
 
 use super::domain::value_of;
 use crate::seen::{Seen, Value};
-use oracle::plain::{Built, Cell, ColumnSpec, JoinKind, Row, Said, TableSpec, Tree};
+use oracle::plain::{Built, Cell, ColumnSpec, JoinKind, Nested, Row, Said, TableSpec, Tree};
 use std::cmp::Ordering;
 
 type Set = (String, Cell);
@@ -39,6 +39,8 @@ pub struct Driver {
     pub updated_rows: fn(&TableSpec, &[Set], Option<&Tree>, Built) -> Said<Vec<u64>>,
     pub joined_pairs: fn(JoinKind, &TableSpec, &TableSpec, &Tree, Built) -> Said<Vec<Pair>>,
     pub inserted_order: fn(&TableSpec, &[Row]) -> Said<Vec<u64>>,
+    pub select_over_join: fn(&Nested, Built) -> Said<Vec<Row>>,
+    pub selected_pairs: fn(&Nested, Built) -> Said<Vec<Pair>>,
 }
 
 macro_rules! driver {
@@ -68,6 +70,8 @@ macro_rules! driver {
             updated_rows: $build::driver::updated_rows,
             joined_pairs: $build::driver::joined_pairs,
             inserted_order: $build::driver::inserted_order,
+            select_over_join: $build::driver::select_over_join,
+            selected_pairs: $build::driver::selected_pairs,
         }
     };
 }

@@ -9,6 +9,7 @@
 mod conditions;
 mod domain;
 mod driver;
+mod nested;
 mod rows;
 mod values;
 
@@ -50,6 +51,7 @@ impl SecondOpinion for Original {
             SELECT | DELETE | UPDATE => rows::one_table(driver, call),
             INNER_JOIN | LEFT_JOIN => rows::join(driver, call),
             INSERT => rows::insert(driver, call),
+            SELECT_INNER_JOIN | SELECT_LEFT_JOIN => nested::select_over_join(driver, call),
             // Faults of words, `row` and binding have no counterpart.
             _ => None,
         };

@@ -187,7 +187,7 @@ pub fn join(driver: &Driver, call: &Call) -> Option<Vec<Seen>> {
 }
 
 /// The words of pairs by row numbers, Null where there is no right row.
-fn pair_words(rows: [&[u64]; 2], widths: [usize; 2], pairs: &[Pair]) -> Vec<u64> {
+pub fn pair_words(rows: [&[u64]; 2], widths: [usize; 2], pairs: &[Pair]) -> Vec<u64> {
     let row = |side: usize, number: u64| {
         let first = number as usize * widths[side];
         rows[side][first..first + widths[side]].to_vec()
@@ -201,7 +201,7 @@ fn pair_words(rows: [&[u64]; 2], widths: [usize; 2], pairs: &[Pair]) -> Vec<u64>
 }
 
 /// The name of a joined column by number, of those that are there.
-fn joined_name(left: usize, count: usize) -> impl Fn(&Expression) -> Option<String> {
+pub fn joined_name(left: usize, count: usize) -> impl Fn(&Expression) -> Option<String> {
     move |leaf| match leaf {
         Expression::Number(number) if (*number as usize) < left => {
             Some(format!("L.{}", number_name(*number as u64)))

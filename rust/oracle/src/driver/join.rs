@@ -49,7 +49,8 @@ pub fn joined_pairs(
     })
 }
 
-fn prefix_of(table: &TableSpec) -> String {
+/// What stands before the names of a table's columns in a join.
+pub fn prefix_of(table: &TableSpec) -> String {
     if table.name.is_empty() {
         String::new()
     } else {

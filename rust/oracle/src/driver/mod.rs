@@ -18,6 +18,7 @@ mod columns;
 mod conditions;
 mod insert;
 mod join;
+mod nested;
 mod package;
 mod panics;
 mod reader;
@@ -37,6 +38,7 @@ pub use self::conditions::{
 };
 pub use self::insert::{insert, inserted_order};
 pub use self::join::{join, joined_pairs};
+pub use self::nested::{select_over_join, selected_pairs};
 pub use self::package::Package;
 pub use self::select::{select, selected_rows};
 pub use self::store::{read_back, read_back_pool};
