@@ -12,7 +12,7 @@ mod tasks;
 
 use library::Ruffleknoll;
 use std::process::ExitCode;
-use std::time::{Duration, Instant};
+use std::time::Duration;
 use tasks::Named;
 use work::Side;
 
@@ -91,12 +91,12 @@ fn sides() -> Result<Vec<Box<dyn Side>>, String> {
 /// Runs one task of the library for so long.
 fn only(named: &Named, long: Duration) -> Result<(), String> {
     let mut ready = Ruffleknoll.ready(&named.task).ok_or("no such work")?;
-    let start = Instant::now();
-    let mut runs = 0_u64;
-    while start.elapsed() < long {
-        ready.time(16);
+    let mut spent = Duration::ZERO;
+    let mut runs = 0;
+    while spent < long {
+        spent += ready.time(16);
         runs += 16;
     }
-    println!("{}: {runs} runs, {:?} each", named.name, start.elapsed() / runs.max(1) as u32);
+    println!("{}: {runs} runs, {:?} each", named.name, spent / runs);
     Ok(())
 }

@@ -4,10 +4,13 @@ use crate::tasks::Named;
 use std::time::Duration;
 use work::{Ready, Side};
 
-const ROUNDS: usize = 7;
+/// Rounds are short and many, so that some fall between what else the machine does; fewer where one run takes long.
+const ROUNDS: usize = 40;
+const FEW_ROUNDS: usize = 7;
 
 /// A round of one side takes about so long, or one run where that takes longer.
-const ROUND: Duration = Duration::from_millis(30);
+const ROUND: Duration = Duration::from_millis(4);
+const LONG: f64 = 0.1;
 
 /// A task on one side: how many runs make a round, and the least time of one run.
 struct Measured {
@@ -48,7 +51,7 @@ pub fn report(sides: &[Box<dyn Side>], tasks: &[Named]) -> Result<(), String> {
         let cells: Vec<String> = times.iter().map(|time| shown(*time, own)).collect();
         println!("| {} | {} |", named.name, cells.join(" | "));
     }
-    println!("\nLeast of {ROUNDS} rounds by turns; in parentheses how many times Ruffleknoll's.");
+    println!("\nLeast of {ROUNDS} rounds by turns, {FEW_ROUNDS} where a run takes over 100 ms; in parentheses how many times Ruffleknoll's.");
     Ok(())
 }
 
@@ -63,7 +66,11 @@ fn measured(sides: &[Box<dyn Side>], named: &Named) -> Result<Vec<Option<f64>>, 
     }
     let mut all: Vec<Option<Measured>> =
         ready.into_iter().map(|ready| ready.map(Measured::new)).collect();
-    for _ in 0..ROUNDS {
+    for round in 0..ROUNDS {
+        let is_long = all.iter().flatten().any(|one| one.least.is_finite() && one.least > LONG);
+        if is_long && round >= FEW_ROUNDS {
+            break;
+        }
         all.iter_mut().flatten().for_each(Measured::round);
     }
     Ok(all.iter().map(|one| one.as_ref().map(|one| one.least)).collect())

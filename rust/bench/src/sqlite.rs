@@ -3,8 +3,8 @@
 
 use std::ffi::{c_char, c_int, c_void, CStr, CString};
 use std::ptr::{null, null_mut};
-use std::time::{Duration, Instant};
-use work::{Answer, Cell, Ready, Row, Side, TableSpec, Task, Tree};
+use std::time::Duration;
+use work::{clock, Answer, Cell, Ready, Row, Side, TableSpec, Task, Tree};
 
 #[repr(C)]
 struct Database {
@@ -225,11 +225,11 @@ impl Ready for Queried {
     }
 
     fn time(&mut self, runs: u32) -> Duration {
-        let start = Instant::now();
+        let start = clock();
         for _ in 0..runs {
             std::hint::black_box(self.statement.run());
         }
-        start.elapsed()
+        clock() - start
     }
 }
 
@@ -298,9 +298,9 @@ impl Ready for Inserted {
     fn time(&mut self, runs: u32) -> Duration {
         let mut total = Duration::ZERO;
         for _ in 0..runs {
-            let start = Instant::now();
+            let start = clock();
             self.put();
-            total += start.elapsed();
+            total += clock() - start;
             self.remove.run();
         }
         total

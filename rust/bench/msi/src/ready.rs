@@ -5,8 +5,8 @@ use crate::internal::query::{Insert, Select};
 use crate::internal::table::Row;
 use crate::store::{cell_of, row_of, table_of, values_of, Store};
 use std::hint::black_box;
-use std::time::{Duration, Instant};
-use work::{Answer, Cell, Ready, TableSpec, Task, Tree};
+use std::time::Duration;
+use work::{clock, Answer, Cell, Ready, TableSpec, Task, Tree};
 
 pub fn ready(task: &Task) -> Box<dyn Ready> {
     match task {
@@ -53,10 +53,10 @@ impl Ready for Queried {
         let mut total = Duration::ZERO;
         for _ in 0..runs {
             let query = (self.query)();
-            let start = Instant::now();
+            let start = clock();
             // The rows are left as references into the string pool, the form they come in.
             drop(black_box(self.store.select(query).expect("rows")));
-            total += start.elapsed();
+            total += clock() - start;
         }
         total
     }
@@ -87,9 +87,9 @@ impl Ready for Inserted {
         let mut total = Duration::ZERO;
         for _ in 0..runs {
             let (mut store, query) = self.made();
-            let start = Instant::now();
+            let start = clock();
             store.insert(query).expect("an accepted insert");
-            total += start.elapsed();
+            total += clock() - start;
             black_box(&store);
         }
         total
@@ -137,11 +137,11 @@ impl Ready for Printed {
 }
 
 fn timed<T>(runs: u32, mut run: impl FnMut() -> T) -> Duration {
-    let start = Instant::now();
+    let start = clock();
     for _ in 0..runs {
         black_box(run());
     }
-    start.elapsed()
+    clock() - start
 }
 
 fn build(tree: &Tree) -> Expr {
