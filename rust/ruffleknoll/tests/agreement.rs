@@ -221,7 +221,6 @@ fn conditions_print_and_fold_as_in_msi() {
     assert!((700..1000).contains(&folded), "{folded}");
 }
 
-#[cfg(has_insert)]
 #[test]
 fn inserts_are_those_of_msi() {
     let mut random = Random(15);
