@@ -1,4 +1,4 @@
-//! Drawn tables and conditions, asked of this crate and of msi's own files: rows, refusals and their places are the same.
+//! Drawn tables and conditions, asked of this crate and of msi's own files: the same rows, the same refusals and places.
 
 use oracle::driver;
 use oracle::plain::{Built, Cell, ColumnSpec, JoinKind, Row, Said, TableSpec, Tree};

@@ -113,7 +113,7 @@ fn lent(parameter: &str) -> &'static str {
     }
 }
 
-/// The header's calls in C, each of which prints what it was lent, writes 77 where it may write, and answers 1, 2, 3, 4.
+/// The header's calls in C. Each prints what it was lent, writes 77 where it may write, and answers 1, 2, 3, 4.
 fn recorder(calls: &Calls) -> String {
     let mut source = String::from("#include \"recorder.h\"\n");
     for (name, (parameters, gives)) in calls {
