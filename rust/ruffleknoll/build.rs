@@ -27,23 +27,11 @@ fn build() -> Result<(), String> {
         let name = archive.display();
         return Err(format!("{name} is missing: `rt staticlib ruffleknoll` writes it"));
     }
-    tell_calls(&repository.join("include/ruffleknoll.h"))?;
     let directory = PathBuf::from(variable("OUT_DIR")?);
     match variable("CARGO_CFG_TARGET_ARCH")?.as_str() {
         "x86_64" => link(&archive, &directory),
         _ => host(&repository, &archive, &directory),
     }
-}
-
-/// The header says whether the archive has `insert`, which came last.
-fn tell_calls(header: &Path) -> Result<(), String> {
-    println!("cargo:rerun-if-changed={}", header.display());
-    println!("cargo:rustc-check-cfg=cfg(has_insert)");
-    let text = fs::read_to_string(header).map_err(|error| told(header, &error))?;
-    if text.contains("ruffleknoll_insert(") {
-        println!("cargo:rustc-cfg=has_insert");
-    }
-    Ok(())
 }
 
 /// The archive under the name by which the linker looks for it.
@@ -59,6 +47,7 @@ fn host(repository: &Path, archive: &Path, directory: &Path) -> Result<(), Strin
     let script = repository.join("rust/host/build");
     let source = repository.join("rust/host");
     println!("cargo:rerun-if-changed={}", source.display());
+    println!("cargo:rerun-if-changed={}", repository.join("include").display());
     let host = directory.join("host");
     let archive = archive.canonicalize().map_err(|error| told(archive, &error))?;
     let built = Command::new("sh").arg(&script).arg(&host).arg(archive).output();

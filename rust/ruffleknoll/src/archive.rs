@@ -192,7 +192,6 @@ extern "C" {
         output_length: u64,
     ) -> Answer;
 
-    #[cfg(has_insert)]
     fn ruffleknoll_insert(
         columns: *const u64,
         columns_length: u64,
@@ -457,12 +456,6 @@ impl Library for Archive {
         Ok(answer)
     }
 
-    #[cfg(not(has_insert))]
-    fn insert(&self, _: Lent, _: &[u64], _: Stored, _: &mut [u64]) -> Answered {
-        Err(Refusal::unasked("this archive has no insert yet"))
-    }
-
-    #[cfg(has_insert)]
     fn insert(&self, table: Lent, new: &[u64], text: Stored, output: &mut [u64]) -> Answered {
         // SAFETY: each pointer comes with its own slice's length; `output`, the one written, is `&mut`.
         let answer = unsafe {

@@ -299,9 +299,6 @@ impl Library for Host {
     }
 
     fn insert(&self, table: Lent, new: &[u64], text: Stored, output: &mut [u64]) -> Answered {
-        if !cfg!(has_insert) {
-            return Err(Refusal::unasked("this archive has no insert yet"));
-        }
         ask(30, arguments!(lent(table), [Words(new)], stored(text), [WordsOut(output)]))
     }
 }

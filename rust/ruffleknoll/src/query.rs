@@ -144,8 +144,7 @@ impl Table {
     /// The table with new rows among its own, in the order of their keys. Each value must be valid for its column, and
     /// each key new.
     ///
-    #[cfg_attr(has_insert, doc = "```")]
-    #[cfg_attr(not(has_insert), doc = "```no_run")]
+    /// ```
     /// use ruffleknoll::{Column, Table, Value};
     /// let clues = Table::new("Clue", vec![Column::build("Number").primary_key().int32()]);
     /// let clues = clues.insert(&[vec![4.into()], vec![1.into()]])?;

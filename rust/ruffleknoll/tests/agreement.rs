@@ -1,4 +1,4 @@
-//! Drawn tables and conditions, asked of this crate and of msi's own files: rows, refusals and their places are the same.
+//! Drawn tables and conditions, asked of this crate and of msi's own files: the same rows, the same refusals and places.
 
 use oracle::driver;
 use oracle::plain::{Built, Cell, ColumnSpec, JoinKind, Row, Said, TableSpec, Tree};
@@ -221,7 +221,6 @@ fn conditions_print_and_fold_as_in_msi() {
     assert!((700..1000).contains(&folded), "{folded}");
 }
 
-#[cfg(has_insert)]
 #[test]
 fn inserts_are_those_of_msi() {
     let mut random = Random(15);

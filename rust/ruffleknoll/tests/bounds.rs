@@ -25,6 +25,20 @@ fn the_largest_tables() {
     assert_eq!(narrow.select(&["c0"; 32], None).map(|wide| wide.columns().len()), Ok(32));
 }
 
+/// Old and new rows together, in the order of their keys.
+#[test]
+fn an_insert_that_doubles_a_table() {
+    let key = Column::build("Number").primary_key().int32();
+    let more = (1..32).map(|number| Column::build(format!("c{number}")).int32());
+    let columns: Vec<Column> = [key].into_iter().chain(more).collect();
+    let rows =
+        |first: usize| (0..500).map(|row| vec![int(2 * row + first); 32]).collect::<Vec<_>>();
+    let odd = Table::new("Clue", columns).with_rows(rows(1)).unwrap();
+    let all = odd.insert(&rows(0)).unwrap();
+    let numbers: Vec<Value> = all.rows().map(|row| row.values()[31].clone()).collect();
+    assert_eq!(numbers, (0..1000).map(int).collect::<Vec<_>>());
+}
+
 /// The first output is made for a row of each side: here the library asks for more.
 #[test]
 fn joins_larger_than_both_sides() {

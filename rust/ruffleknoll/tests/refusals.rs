@@ -120,7 +120,6 @@ fn rows_of_another_length_are_not_asked_about() {
     assert_eq!(refusal.number(), None);
 }
 
-#[cfg(has_insert)]
 #[test]
 fn rows_that_cannot_be_inserted() {
     let columns = vec![Column::build("Number").primary_key().int32()];
@@ -137,12 +136,4 @@ fn rows_that_cannot_be_inserted() {
     refused(double.insert(&[]), 14, "Clue 2: an earlier row has its key");
     refused(inserted(&vec![9; 4097]), 8, "4097 new rows: at most 4096 are allowed");
     assert!(inserted(&[]).is_ok_and(|same| same == clues));
-}
-
-/// Without the call there is no answer, and no wrong one.
-#[cfg(not(has_insert))]
-#[test]
-fn an_archive_without_insert() {
-    let refusal = numbers("Clue", [1]).insert(&[vec![2.into()]]).unwrap_err();
-    assert_eq!(refusal.to_string(), "this archive has no insert yet");
 }

@@ -12,13 +12,6 @@ use calls::{Answer, Head, Join, Lent, Library, Stored, Text};
 #[derive(Debug)]
 pub struct Refusal;
 
-impl Refusal {
-    #[cfg(not(has_insert))]
-    fn unasked(_: &str) -> Refusal {
-        Refusal
-    }
-}
-
 const LEFT: Lent = Lent { columns: &[1, 1], rows: &[3] };
 const RIGHT: Lent = Lent { columns: &[2, 2, 2, 2], rows: &[4, 4] };
 const STORED: Stored = Stored { bytes: &[11, 11, 11], used: 2 };
@@ -56,8 +49,5 @@ fn main() {
     written(true, |text, output| library.select(LEFT, &[5], &[7], text, output));
     written(true, |text, output| library.delete(LEFT, &[7], text, output));
     written(true, |text, output| library.update(LEFT, &[6, 6], &[7], text, output));
-    #[cfg(has_insert)]
     written(false, |_, output| library.insert(LEFT, RIGHT.rows, STORED, output));
-    #[cfg(not(has_insert))]
-    assert!(library.insert(LEFT, RIGHT.rows, STORED, &mut []).is_err());
 }

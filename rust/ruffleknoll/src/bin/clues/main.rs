@@ -1,5 +1,5 @@
-//! `clues DIRECTORY`: each grid entry of a puzzle with its clue, then the entries without a clue and the clues without an
-//! entry. The directory has `entries.txt` and `clues.txt`.
+//! `clues DIRECTORY`: each grid entry of a puzzle with its clue, then the entries without a clue and the clues without
+//! an entry. The directory has `entries.txt` and `clues.txt`.
 
 mod files;
 mod report;
