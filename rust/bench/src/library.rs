@@ -1,7 +1,8 @@
 //! This library's side: buffers are lent once, and every run is one call.
 
-use crate::calls::{self, unanswered, Answered};
+use crate::calls::by_number;
 use crate::lent::{names, Texts};
+use cases::call::{EVALUATE, FOLD, INSERT, LEFT_JOIN, PRINT, SELECT};
 use std::hint::black_box;
 use std::time::Duration;
 use work::{clock, Answer, Ready, Side, Task};
@@ -18,18 +19,10 @@ impl Side for Ruffleknoll {
     }
 }
 
-enum Call {
-    Select,
-    LeftJoin,
-    Insert,
-    Evaluate,
-    Fold,
-    Print,
-}
-
 /// All that a call of any kind is lent; what it doesn't take is empty.
 struct Lent {
-    call: Call,
+    /// By docs/CASES.md's number.
+    call: u8,
     texts: Texts,
     columns: Vec<u64>,
     rows: Vec<u64>,
@@ -44,7 +37,7 @@ struct Lent {
 }
 
 impl Lent {
-    fn new(call: Call) -> Lent {
+    fn new(call: u8) -> Lent {
         Lent {
             call,
             texts: Texts::new(),
@@ -61,11 +54,11 @@ impl Lent {
 
     fn of(task: &Task) -> Lent {
         match task {
-            Task::Select { table, condition } => Lent::over(Call::Select, table, condition),
-            Task::Evaluate { table, condition } => Lent::over(Call::Evaluate, table, condition),
+            Task::Select { table, condition } => Lent::over(SELECT, table, condition),
+            Task::Evaluate { table, condition } => Lent::over(EVALUATE, table, condition),
             Task::LeftJoin { left, right, condition } => Lent::join(left, right, condition),
             Task::Insert { table, new_rows } => {
-                let mut lent = Lent::new(Call::Insert);
+                let mut lent = Lent::new(INSERT);
                 lent.columns = lent.texts.columns(table);
                 lent.rows = lent.texts.rows(&table.rows);
                 lent.more_rows = lent.texts.rows(new_rows);
@@ -73,13 +66,13 @@ impl Lent {
                 lent.words = vec![0; lent.rows.len() + lent.more_rows.len()];
                 lent
             }
-            Task::Fold(tree) => Lent::named(Call::Fold, tree),
-            Task::Print(tree) => Lent::named(Call::Print, tree),
+            Task::Fold(tree) => Lent::named(FOLD, tree),
+            Task::Print(tree) => Lent::named(PRINT, tree),
         }
     }
 
     /// A condition over one table.
-    fn over(call: Call, table: &work::TableSpec, condition: &work::Tree) -> Lent {
+    fn over(call: u8, table: &work::TableSpec, condition: &work::Tree) -> Lent {
         let mut lent = Lent::new(call);
         lent.columns = lent.texts.columns(table);
         lent.rows = lent.texts.rows(&table.rows);
@@ -92,7 +85,7 @@ impl Lent {
     }
 
     fn join(left: &work::TableSpec, right: &work::TableSpec, condition: &work::Tree) -> Lent {
-        let mut lent = Lent::new(Call::LeftJoin);
+        let mut lent = Lent::new(LEFT_JOIN);
         lent.columns = lent.texts.columns(left);
         lent.rows = lent.texts.rows(&left.rows);
         lent.texts.forget();
@@ -105,151 +98,66 @@ impl Lent {
         lent
     }
 
-    fn named(call: Call, tree: &work::Tree) -> Lent {
+    fn named(call: u8, tree: &work::Tree) -> Lent {
         let mut lent = Lent::new(call);
         lent.condition = lent.texts.condition(tree, &[]);
         lent
     }
 
-    /// SAFETY of every call: each pointer comes with its buffer's length, and the written buffers overlap none.
-    fn ask(&mut self) -> Answered {
-        match self.call {
-            Call::Select | Call::LeftJoin | Call::Insert => self.ask_rows(),
-            Call::Evaluate | Call::Fold | Call::Print => self.ask_condition(),
-        }
+    /// The arguments in the header's order. They stay right as long as no buffer is changed in length.
+    fn arguments(&mut self) -> [u64; 15] {
+        let words = |words: &[u64]| vec![words.as_ptr() as u64, words.len() as u64];
+        let (columns, rows) = (words(&self.columns), words(&self.rows));
+        let (right_columns, more_rows) = (words(&self.right_columns), words(&self.more_rows));
+        let condition = vec![self.condition.as_ptr() as u64, self.condition.len() as u64];
+        let text = &mut self.texts.bytes;
+        let text = vec![text.as_mut_ptr() as u64, text.len() as u64, self.texts.used as u64];
+        let words_out = vec![self.words.as_mut_ptr() as u64, self.words.len() as u64];
+        let bytes_out = vec![self.bytes.as_mut_ptr() as u64, self.bytes.len() as u64];
+        let parts = match self.call {
+            EVALUATE => vec![condition, rows, text],
+            FOLD | PRINT => vec![condition, text, bytes_out],
+            // No right columns are lent here: an empty list of columns.
+            SELECT => vec![columns, rows, right_columns, condition, text, words_out],
+            LEFT_JOIN => {
+                vec![columns, rows, right_columns, more_rows, condition, text, words_out]
+            }
+            _ => vec![columns, rows, more_rows, text, words_out],
+        };
+        let mut arguments = [0; 15];
+        let all = parts.concat();
+        arguments[..all.len()].copy_from_slice(&all);
+        arguments
     }
 
-    fn ask_condition(&mut self) -> Answered {
-        let (condition, length) = (self.condition.as_ptr(), self.condition.len() as u64);
-        let text = self.texts.bytes.as_mut_ptr();
-        let (text_length, used) = (self.texts.bytes.len() as u64, self.texts.used as u64);
-        let (row, row_length) = (self.rows.as_ptr(), self.rows.len() as u64);
-        let (output, room) = (self.bytes.as_mut_ptr(), self.bytes.len() as u64);
-        let mut answered = unanswered();
-        unsafe {
-            match self.call {
-                Call::Fold => calls::ruffleknoll_fold(
-                    &mut answered,
-                    condition,
-                    length,
-                    text,
-                    text_length,
-                    used,
-                    output,
-                    room,
-                ),
-                Call::Print => calls::ruffleknoll_print(
-                    &mut answered,
-                    condition,
-                    length,
-                    text,
-                    text_length,
-                    used,
-                    output,
-                    room,
-                ),
-                _ => calls::ruffleknoll_evaluate(
-                    &mut answered,
-                    condition,
-                    length,
-                    row,
-                    row_length,
-                    text,
-                    text_length,
-                    used,
-                ),
-            }
-        };
-        answered
-    }
-
-    fn ask_rows(&mut self) -> Answered {
-        let (condition, length) = (self.condition.as_ptr(), self.condition.len() as u64);
-        let text = self.texts.bytes.as_mut_ptr();
-        let (text_length, used) = (self.texts.bytes.len() as u64, self.texts.used as u64);
-        let (columns, columns_length) = (self.columns.as_ptr(), self.columns.len() as u64);
-        let (rows, rows_length) = (self.rows.as_ptr(), self.rows.len() as u64);
-        let (more, more_length) = (self.more_rows.as_ptr(), self.more_rows.len() as u64);
-        let (others, others_length) =
-            (self.right_columns.as_ptr(), self.right_columns.len() as u64);
-        let (output, room) = (self.words.as_mut_ptr(), self.words.len() as u64);
-        let mut answered = unanswered();
-        unsafe {
-            match self.call {
-                Call::Select => calls::ruffleknoll_select(
-                    &mut answered,
-                    columns,
-                    columns_length,
-                    rows,
-                    rows_length,
-                    others,
-                    others_length,
-                    condition,
-                    length,
-                    text,
-                    text_length,
-                    used,
-                    output,
-                    room,
-                ),
-                Call::LeftJoin => calls::ruffleknoll_left_join(
-                    &mut answered,
-                    columns,
-                    columns_length,
-                    rows,
-                    rows_length,
-                    others,
-                    others_length,
-                    more,
-                    more_length,
-                    condition,
-                    length,
-                    text,
-                    text_length,
-                    used,
-                    output,
-                    room,
-                ),
-                _ => calls::ruffleknoll_insert(
-                    &mut answered,
-                    columns,
-                    columns_length,
-                    rows,
-                    rows_length,
-                    more,
-                    more_length,
-                    text,
-                    text_length,
-                    used,
-                    output,
-                    room,
-                ),
-            }
-        };
-        answered
+    fn ask(&self, arguments: &[u64; 15]) -> [u64; 4] {
+        // SAFETY: each pointer comes with its buffer's length, and the written buffers overlap none.
+        unsafe { by_number(self.call, arguments) }.expect("a call of the header")
     }
 }
 
 impl Ready for Lent {
     fn answer(&mut self) -> Answer {
-        let answered = self.ask();
-        assert_eq!(answered.number, 0, "refused: {answered:?}");
-        let value = answered.value as usize;
+        let arguments = self.arguments();
+        let [number, place, value, used] = self.ask(&arguments);
+        assert_eq!(number, 0, "refused at {place}");
+        let count = value as usize;
         match self.call {
-            Call::Evaluate => Answer::Cell(self.texts.read(answered.value)),
-            Call::Print => {
-                Answer::Printed(String::from_utf8(self.bytes[..value].to_vec()).expect("UTF-8"))
+            EVALUATE => Answer::Cell(self.texts.read(value)),
+            PRINT => {
+                let printed = self.bytes[..count].to_vec();
+                Answer::Printed(String::from_utf8(printed).expect("UTF-8"))
             }
-            Call::Fold => {
+            FOLD => {
                 // The folded condition is printed.
-                let mut printed = Lent::new(Call::Print);
-                printed.condition = self.bytes[..value].to_vec();
+                let mut printed = Lent::new(PRINT);
+                printed.condition = self.bytes[..count].to_vec();
                 printed.texts.bytes.clone_from(&self.texts.bytes);
-                printed.texts.used = answered.used as usize;
+                printed.texts.used = used as usize;
                 printed.answer()
             }
             _ => {
-                let rows = self.words[..value * self.width].chunks_exact(self.width);
+                let rows = self.words[..count * self.width].chunks_exact(self.width);
                 let read = |&word| self.texts.read(word);
                 Answer::Rows(rows.map(|row| row.iter().map(read).collect()).collect())
             }
@@ -257,10 +165,10 @@ impl Ready for Lent {
     }
 
     fn time(&mut self, runs: u32) -> Duration {
+        let arguments = self.arguments();
         let start = clock();
         for _ in 0..runs {
-            black_box(self.ask());
-            black_box(&mut *self);
+            black_box(self.ask(black_box(&arguments)));
         }
         clock() - start
     }

@@ -91,11 +91,15 @@ fn sides() -> Result<Vec<Box<dyn Side>>, String> {
 /// Runs one task of the library for so long.
 fn only(named: &Named, long: Duration) -> Result<(), String> {
     let mut ready = Ruffleknoll.ready(&named.task).ok_or("no such work")?;
-    let mut spent = Duration::ZERO;
-    let mut runs = 0;
+    let (mut spent, mut runs, mut turn) = (Duration::ZERO, 0, 1);
     while spent < long {
-        spent += ready.time(16);
-        runs += 16;
+        let time = ready.time(turn);
+        spent += time;
+        runs += turn;
+        // Long turns, so that reading the clock weighs nothing.
+        if time < Duration::from_millis(10) {
+            turn *= 2;
+        }
     }
     println!("{}: {runs} runs, {:?} each", named.name, spent / runs);
     Ok(())
