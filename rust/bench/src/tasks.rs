@@ -37,8 +37,7 @@ pub fn growing() -> Vec<Named> {
         tasks.push(named(format!("select, {rows} rows of 4 columns"), select(rows, 4)));
     }
     for columns in [4, 8, 16] {
-        tasks
-            .push(named(format!("select, 4,096 rows of {columns} columns"), select(4096, columns)));
+        tasks.push(named(format!("select, 4096 rows of {columns} columns"), select(4096, columns)));
     }
     for rows in [512, 1024, 2048] {
         tasks.push(named(format!("left join {rows}×{rows}, int key"), join_ints(rows)));
