@@ -32,7 +32,7 @@ use Rattle.answers.specs.declared.Part.{Part}
 
 -- one answer makes one struct
 module _ (A : Type 0) (fields : A → Answer) (P Q : A → Type 0) (r s : Answer) where
-  one-struct : (h : Tells A fields P r) (k : Tells A fields Q s) → h .answer ≡ k .answer → r ≡ s
+  pub one-struct : (h : Tells A fields P r) (k : Tells A fields Q s) → h .answer ≡ k .answer → r ≡ s
   one-struct h k e = h .says ∙ ap fields e ∙ sym (k .says)
 
 -- bind, with, print, and every call that writes rows

@@ -1,15 +1,5 @@
 // The calls on conditions.
-ghost use lib.ListN.{length, take};
-ghost use Rattle.evaluation.specs.Evaluation.{EvaluatedIs};
-ghost use Rattle.evaluation.specs.declared.Evaluated.{Evaluated};
-ghost use Rattle.folding.specs.Call.{FoldIs, folding};
-ghost use Rattle.folding.specs.declared.Shortened.{Shortened};
-ghost use Rattle.binding.specs.Bind.{BindIs};
-ghost use Rattle.conjunction.specs.With.{WithIs};
-ghost use Rattle.printing.specs.Print.{PrintIs};
-ghost use Rattle.writing.specs.declared.Written.{Written};
-ghost use Rattle.answers.specs.Answer.{ofEvaluated, ofShortened, ofWritten};
-ghost use Rattle.answers.specs.Tells.{Tells};
+ghost use Rattle.ruffleknoll.specs.Calls.{Evaluates, Folds, Binds, Conjoins, Prints};
 use answers::Answer;
 
 // `evaluate`: the value is the cell's word.
@@ -20,8 +10,7 @@ pub extern "C" fn ruffleknoll_evaluate(
     text: &mut [u8],
     used: usize,
 ) -> Answer
-    ensures { λ r. ⌜ Tells Evaluated (ofEvaluated used)
-        (λ e. EvaluatedIs (record { limit = 1024 }) (now (condition .entry)) (now (row .entry)) (now (text .entry)) (now (text .exit)) used e) r ⌝ }
+    ensures { λ r. ⌜ Evaluates (now (condition .entry)) (now (row .entry)) (now (text .entry)) used (now (text .exit)) r ⌝ }
 {
     answers::of_evaluated(evaluation::evaluate(condition, row, text, used), used)
 }
@@ -34,9 +23,7 @@ pub extern "C" fn ruffleknoll_fold(
     used: usize,
     out: &mut [u8],
 ) -> Answer
-    ensures { λ r. ⌜ Tells Shortened (ofShortened used)
-        (λ s. FoldIs (folding (record { limit = 1024 }) (now (condition .entry)) (take used (now (text .entry))) (length (now (text .entry))) used (length (now (out .entry))))
-        (take used (now (text .entry))) (now (text .exit)) (now (out .entry)) (now (out .exit)) s) r ⌝ }
+    ensures { λ r. ⌜ Folds (now (condition .entry)) (now (text .entry)) used (now (out .entry)) (now (text .exit)) (now (out .exit)) r ⌝ }
 {
     answers::of_shortened(folding::fold(condition, text, used, out), used)
 }
@@ -50,8 +37,7 @@ pub extern "C" fn ruffleknoll_bind(
     used: usize,
     out: &mut [u8],
 ) -> Answer
-    ensures { λ r. ⌜ Tells Written (ofWritten used)
-        (λ w. BindIs (now (condition .entry)) (now (columns .entry)) (take used (now (text .entry))) (length (now (text .entry))) used (now (out .entry)) (now (out .exit)) w) r ⌝ }
+    ensures { λ r. ⌜ Binds (now (condition .entry)) (now (columns .entry)) (now (text .entry)) used (now (out .entry)) (now (out .exit)) r ⌝ }
 {
     answers::of_written(binding::bind(condition, columns, text, used, out), used)
 }
@@ -65,8 +51,7 @@ pub extern "C" fn ruffleknoll_with(
     used: usize,
     out: &mut [u8],
 ) -> Answer
-    ensures { λ r. ⌜ Tells Written (ofWritten used)
-        (λ w. WithIs (length (now (text .entry))) used (now (old .entry)) (now (new .entry)) (now (out .entry)) (now (out .exit)) w) r ⌝ }
+    ensures { λ r. ⌜ Conjoins (now (old .entry)) (now (new .entry)) (now (text .entry)) used (now (out .entry)) (now (out .exit)) r ⌝ }
 {
     answers::of_written(conjunction::with(old, new, text, used, out), used)
 }
@@ -79,8 +64,7 @@ pub extern "C" fn ruffleknoll_print(
     used: usize,
     out: &mut [u8],
 ) -> Answer
-    ensures { λ r. ⌜ Tells Written (ofWritten used)
-        (λ w. PrintIs (now (condition .entry)) (take used (now (text .entry))) (length (now (text .entry))) used (now (out .entry)) (now (out .exit)) w) r ⌝ }
+    ensures { λ r. ⌜ Prints (now (condition .entry)) (now (text .entry)) used (now (out .entry)) (now (out .exit)) r ⌝ }
 {
     answers::of_written(printing::print(condition, text, used, out), used)
 }

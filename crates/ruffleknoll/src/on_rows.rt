@@ -1,13 +1,5 @@
 // The calls that write rows: the value is the rows written.
-ghost use mathlib.Core.Path.{_≡_};
-ghost use lib.ListN.{length, take};
-ghost use Rattle.writing.specs.declared.Written.{Written};
-ghost use Rattle.selecting.specs.Select.{SelectIs, DeleteIs};
-ghost use Rattle.joins.specs.Join.{InnerJoinIs, LeftJoinIs};
-ghost use Rattle.updating.specs.Update.{UpdateIs};
-ghost use Rattle.inserting.specs.Insert.{InsertIs};
-ghost use Rattle.answers.specs.Answer.{ofWritten};
-ghost use Rattle.answers.specs.Tells.{Tells};
+ghost use Rattle.ruffleknoll.specs.Calls.{Selects, InnerJoins, LeftJoins, Deletes, Updates, Inserts, TextKept};
 use answers::Answer;
 
 // `select`
@@ -21,9 +13,8 @@ pub extern "C" fn ruffleknoll_select(
     used: usize,
     out: &mut [u64],
 ) -> Answer
-    ensures { λ r. ⌜ Tells Written (ofWritten used) (λ w. SelectIs (record { limit = 1024 }) (now (columns .entry)) (now (rows .entry)) (now (list .entry))
-        (now (condition .entry)) (take used (now (text .entry))) (length (now (text .entry))) used (now (out .entry)) (now (out .exit)) w) r ⌝ }
-    ensures { λ r. ⌜ (take used (now (text .exit)) ≡ take used (now (text .entry))) × (length (now (condition .entry)) ≡ 0 → now (text .exit) ≡ now (text .entry)) ⌝ }
+    ensures { λ r. ⌜ Selects (now (columns .entry)) (now (rows .entry)) (now (list .entry)) (now (condition .entry)) (now (text .entry)) used (now (out .entry)) (now (out .exit)) r ⌝ }
+    ensures { λ r. ⌜ TextKept (now (condition .entry)) (now (text .entry)) used (now (text .exit)) ⌝ }
 {
     answers::of_written(
         selecting::select(columns, rows, list, condition, text, used, out),
@@ -43,9 +34,8 @@ pub extern "C" fn ruffleknoll_inner_join(
     used: usize,
     out: &mut [u64],
 ) -> Answer
-    ensures { λ r. ⌜ Tells Written (ofWritten used) (λ w. InnerJoinIs (record { limit = 1024 }) (now («left_columns» .entry)) (now (left .entry)) (now («right_columns» .entry)) (now (right .entry))
-        (now (condition .entry)) (take used (now (text .entry))) (length (now (text .entry))) used (now (out .entry)) (now (out .exit)) w) r ⌝ }
-    ensures { λ r. ⌜ (take used (now (text .exit)) ≡ take used (now (text .entry))) × (length (now (condition .entry)) ≡ 0 → now (text .exit) ≡ now (text .entry)) ⌝ }
+    ensures { λ r. ⌜ InnerJoins (now («left_columns» .entry)) (now (left .entry)) (now («right_columns» .entry)) (now (right .entry)) (now (condition .entry)) (now (text .entry)) used (now (out .entry)) (now (out .exit)) r ⌝ }
+    ensures { λ r. ⌜ TextKept (now (condition .entry)) (now (text .entry)) used (now (text .exit)) ⌝ }
 {
     answers::of_written(
         joins::inner_join(
@@ -74,9 +64,8 @@ pub extern "C" fn ruffleknoll_left_join(
     used: usize,
     out: &mut [u64],
 ) -> Answer
-    ensures { λ r. ⌜ Tells Written (ofWritten used) (λ w. LeftJoinIs (record { limit = 1024 }) (now («left_columns» .entry)) (now (left .entry)) (now («right_columns» .entry)) (now (right .entry))
-        (now (condition .entry)) (take used (now (text .entry))) (length (now (text .entry))) used (now (out .entry)) (now (out .exit)) w) r ⌝ }
-    ensures { λ r. ⌜ (take used (now (text .exit)) ≡ take used (now (text .entry))) × (length (now (condition .entry)) ≡ 0 → now (text .exit) ≡ now (text .entry)) ⌝ }
+    ensures { λ r. ⌜ LeftJoins (now («left_columns» .entry)) (now (left .entry)) (now («right_columns» .entry)) (now (right .entry)) (now (condition .entry)) (now (text .entry)) used (now (out .entry)) (now (out .exit)) r ⌝ }
+    ensures { λ r. ⌜ TextKept (now (condition .entry)) (now (text .entry)) used (now (text .exit)) ⌝ }
 {
     answers::of_written(
         joins::left_join(
@@ -103,9 +92,8 @@ pub extern "C" fn ruffleknoll_delete(
     used: usize,
     out: &mut [u64],
 ) -> Answer
-    ensures { λ r. ⌜ Tells Written (ofWritten used) (λ w. DeleteIs (record { limit = 1024 }) (now (columns .entry)) (now (rows .entry))
-        (now (condition .entry)) (take used (now (text .entry))) (length (now (text .entry))) used (now (out .entry)) (now (out .exit)) w) r ⌝ }
-    ensures { λ r. ⌜ (take used (now (text .exit)) ≡ take used (now (text .entry))) × (length (now (condition .entry)) ≡ 0 → now (text .exit) ≡ now (text .entry)) ⌝ }
+    ensures { λ r. ⌜ Deletes (now (columns .entry)) (now (rows .entry)) (now (condition .entry)) (now (text .entry)) used (now (out .entry)) (now (out .exit)) r ⌝ }
+    ensures { λ r. ⌜ TextKept (now (condition .entry)) (now (text .entry)) used (now (text .exit)) ⌝ }
 {
     answers::of_written(
         selecting::delete(columns, rows, condition, text, used, out),
@@ -124,9 +112,8 @@ pub extern "C" fn ruffleknoll_update(
     used: usize,
     out: &mut [u64],
 ) -> Answer
-    ensures { λ r. ⌜ Tells Written (ofWritten used) (λ w. UpdateIs (record { limit = 1024 }) (now (columns .entry)) (now (rows .entry)) (now (sets .entry))
-        (now (condition .entry)) (take used (now (text .entry))) (length (now (text .entry))) used (now (out .entry)) (now (out .exit)) w) r ⌝ }
-    ensures { λ r. ⌜ (take used (now (text .exit)) ≡ take used (now (text .entry))) × (length (now (condition .entry)) ≡ 0 → now (text .exit) ≡ now (text .entry)) ⌝ }
+    ensures { λ r. ⌜ Updates (now (columns .entry)) (now (rows .entry)) (now (sets .entry)) (now (condition .entry)) (now (text .entry)) used (now (out .entry)) (now (out .exit)) r ⌝ }
+    ensures { λ r. ⌜ TextKept (now (condition .entry)) (now (text .entry)) used (now (text .exit)) ⌝ }
 {
     answers::of_written(
         updating::update(columns, rows, sets, condition, text, used, out),
@@ -144,8 +131,7 @@ pub extern "C" fn ruffleknoll_insert<'a>(
     used: usize,
     out: &mut [u64],
 ) -> Answer
-    ensures { λ r. ⌜ Tells Written (ofWritten used) (λ w. InsertIs (now (columns .entry)) (take used (now (text .entry))) (now (old .entry)) (now (new .entry))
-        (length (now (text .entry))) used (now (out .entry)) (now (out .exit)) w) r ⌝ }
+    ensures { λ r. ⌜ Inserts (now (columns .entry)) (now (old .entry)) (now (new .entry)) (now (text .entry)) used (now (out .entry)) (now (out .exit)) r ⌝ }
 {
     answers::of_written(inserting::insert(columns, old, new, text, used, out), used)
 }

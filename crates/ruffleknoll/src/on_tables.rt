@@ -1,14 +1,10 @@
 // The calls on one row, two rows, and column tables.
 ghost use mathlib.Core.Path.{_≡_};
 ghost use mathlib.Core.Bool.{true, false};
-ghost use lib.ListN.{length, take};
 ghost use Rattle.keys.specs.Key.{earlierOf};
-ghost use Rattle.heads.specs.Heads.{HeadIs, head};
-ghost use Rattle.heads.specs.declared.Joined.{Joined};
-ghost use Rattle.answers.specs.Answer.{ofJoined};
-ghost use Rattle.answers.specs.Tells.{Tells};
 ghost use Rattle.answers.specs.Row.{PartIs};
 ghost use Rattle.answers.specs.Earlier.{whichEarlier, handed};
+ghost use Rattle.ruffleknoll.specs.Calls.{JoinsColumns};
 use answers::Answer;
 use answers::Part;
 
@@ -46,9 +42,7 @@ pub extern "C" fn ruffleknoll_inner_join_columns(
     used: usize,
     out: &mut [u64],
 ) -> Answer
-    ensures { λ r. ⌜ Tells Joined (ofJoined used)
-        (λ j. HeadIs (head false (now («left_name» .entry)) (now (left .entry)) (now («right_name» .entry)) (now (right .entry)) (take used (now (text .entry)))
-        (length (now (text .entry))) used (length (now (out .entry)))) (take used (now (text .entry))) (now (text .exit)) (now (out .entry)) (now (out .exit)) j) r ⌝ }
+    ensures { λ r. ⌜ JoinsColumns false (now («left_name» .entry)) (now (left .entry)) (now («right_name» .entry)) (now (right .entry)) (now (text .entry)) used (now (out .entry)) (now (text .exit)) (now (out .exit)) r ⌝ }
 {
     answers::of_joined(
         heads::inner_join_columns(left_name, left, right_name, right, text, used, out),
@@ -67,9 +61,7 @@ pub extern "C" fn ruffleknoll_left_join_columns(
     used: usize,
     out: &mut [u64],
 ) -> Answer
-    ensures { λ r. ⌜ Tells Joined (ofJoined used)
-        (λ j. HeadIs (head true (now («left_name» .entry)) (now (left .entry)) (now («right_name» .entry)) (now (right .entry)) (take used (now (text .entry)))
-        (length (now (text .entry))) used (length (now (out .entry)))) (take used (now (text .entry))) (now (text .exit)) (now (out .entry)) (now (out .exit)) j) r ⌝ }
+    ensures { λ r. ⌜ JoinsColumns true (now («left_name» .entry)) (now (left .entry)) (now («right_name» .entry)) (now (right .entry)) (now (text .entry)) used (now (out .entry)) (now (text .exit)) (now (out .exit)) r ⌝ }
 {
     answers::of_joined(
         heads::left_join_columns(left_name, left, right_name, right, text, used, out),

@@ -1,0 +1,3 @@
+-- What other crates use.
+pub mod Unique
+pub mod Fields
