@@ -1,5 +1,5 @@
 -- What each exported call promises, in the order of its arguments: what was lent, then the buffers after the call, then the struct
--- (readings.md, "Calls"). Assumes nothing: these are definitions.
+-- (docs/DECISIONS.md, "Exported calls"). Assumes nothing: these are definitions.
 use Prim.Native.Nat.{ℕ}
 use mathlib.Core.Path.{_≡_}
 use mathlib.Core.Bool.{Bool}
