@@ -1,8 +1,8 @@
 //! This library's side: buffers are lent once, and every run is one call.
 
-use crate::calls::by_number;
 use crate::lent::{names, Texts};
 use cases::call::{EVALUATE, FOLD, INSERT, LEFT_JOIN, PRINT, SELECT};
+use compare::calls::by_number;
 use std::hint::black_box;
 use std::time::Duration;
 use work::{clock, Answer, Ready, Side, Task};

@@ -1,7 +1,6 @@
 //! `bench [table|grow|check COUNT|only NUMBER SECONDS]`: measures msi, this library and SQLite on the same work, or the
 //! library at three sizes, or checks the archive, or runs one task of the library over and over for a profile.
 
-mod calls;
 mod check;
 mod lent;
 mod library;

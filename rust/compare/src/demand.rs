@@ -40,13 +40,15 @@ pub fn check_demand(
 mod tests {
     use super::*;
 
-    fn list(pairs: &[(usize, Option<usize>)]) -> Vec<Entry> {
+    type Pairs = [(usize, Option<usize>)];
+
+    fn list(pairs: &Pairs) -> Vec<Entry> {
         pairs.iter().map(|&(left, right)| Entry { left, right }).collect()
     }
 
     /// Three left rows; of the right rows 0 to 3, 1 and 3 are added, and 3
     /// matches the left row 1.
-    fn demand(new: &[(usize, Option<usize>)]) -> Result<(), String> {
+    fn demand(new: &Pairs) -> Result<(), String> {
         let old = list(&[(0, Some(0)), (0, Some(2)), (1, None), (2, None)]);
         check_demand(&old, &list(new), &|right| right % 2 == 1, &[false, true, false])
     }
@@ -59,7 +61,7 @@ mod tests {
     /// Each line of the demand is told when it is broken.
     #[test]
     fn each_line_can_fail() {
-        let broken: [(&str, &[(usize, Option<usize>)]); 7] = [
+        let broken: [(&str, &Pairs); 7] = [
             ("still listed", &[(0, Some(2)), (1, Some(3)), (2, None)]),
             ("still listed", &[(0, Some(2)), (0, Some(0)), (1, Some(3)), (2, None)]),
             ("exactly when", &[(0, Some(0)), (0, Some(2)), (1, None), (1, Some(3)), (2, None)]),

@@ -1,15 +1,12 @@
 //! The archive, in a process of its own that `rust/host/host.c` describes.
 
 use crate::image::Argument;
-use crate::library::{Answered, Library};
+use crate::library::{Answered, Library, ARGUMENTS};
 use std::fs::File;
 use std::io::{self, Read, Write};
 use std::os::unix::fs::FileExt;
 use std::path::PathBuf;
 use std::process::{Child, ChildStdin, ChildStdout, Command, Stdio};
-
-/// The most arguments that a call takes.
-const ARGUMENTS: usize = 15;
 
 /// The length of the shared memory.
 const MEMORY: u64 = 1 << 24;

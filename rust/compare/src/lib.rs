@@ -1,8 +1,9 @@
-//! The library's archive compared with the model and the original Rust, on
-//! calls from a seed. The archive is x86-64 code, so it runs in a process of
-//! its own (`rust/host`), elsewhere under an emulator; a crash there is told
-//! from a difference.
+//! The library compared with the model and the original Rust, on calls from a
+//! seed: linked into this process, and its x86-64 archive in a process of its
+//! own (`rust/host`), where another processor needs an emulator for it.
 
+#[cfg(feature = "linked")]
+pub mod calls;
 pub mod check;
 pub mod demand;
 pub mod drawn;
@@ -12,6 +13,8 @@ pub mod host;
 pub mod hostile;
 pub mod image;
 pub mod library;
+#[cfg(feature = "linked")]
+pub mod linked;
 pub mod planted;
 pub mod rubbish;
 pub mod stand_in;

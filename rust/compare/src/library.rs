@@ -7,6 +7,9 @@ use cases::call::{Signature, INSERT, ROW, SIGNATURES};
 /// part's start and length as the last two, `earlier` its answer as value.
 pub type Answered = [u64; 4];
 
+/// The most arguments that a call takes.
+pub const ARGUMENTS: usize = 15;
+
 pub trait Library {
     /// Whether the library has a call yet.
     fn has(&self, call: u8) -> bool;

@@ -1,6 +1,7 @@
-//! `compare MODE [SEED [COUNT]] [--plant MISTAKE] [-- HOST ..]`, where MODE
-//! is drawn, hostile or grown, and HOST the command of the process with the
-//! archive. Without it the model stands in, to try the comparison itself.
+//! `compare MODE [SEED [COUNT]] [--plant MISTAKE] [--linked | -- HOST ..]`,
+//! where MODE is drawn, hostile or grown, and HOST the command of the process
+//! with the archive. With neither `--linked` nor HOST the model stands in, to
+//! try the comparison itself.
 
 use compare::host::Host;
 use compare::library::{lacking, Library};
@@ -36,37 +37,51 @@ fn main() -> ExitCode {
 
 /// How many differ.
 fn run(words: &[String]) -> Result<usize, String> {
-    let (words, host) = match words.iter().position(|word| word == "--") {
-        Some(end) => (&words[..end], &words[end + 1..]),
-        None => (words, &[][..]),
-    };
-    let (words, mistake) = match words.iter().position(|word| word == "--plant") {
-        Some(end) => (&words[..end], words.get(end + 1)),
-        None => (words, None),
-    };
-    let usage = "compare drawn|hostile|grown [SEED [COUNT]] [--plant MISTAKE] [-- HOST ..]";
+    let usage =
+        "compare drawn|hostile|grown [SEED [COUNT]] [--plant MISTAKE] [--linked | -- HOST ..]";
+    let (words, host) = cut(words, "--");
+    let (words, linked) = cut(words, "--linked");
+    let (words, mistake) = cut(words, "--plant");
     let mode = MODES.iter().find(|mode| words.first().is_some_and(|word| word == mode.0));
     let &(name, compare, count) = mode.ok_or(usage)?;
     let seed = number(words.get(1), 1)?;
     let count = number(words.get(2), count as u64)? as usize;
-    let mut library = library(host, mistake)?;
+    let library = match (linked, host) {
+        ([], []) => Box::new(StandIn),
+        ([_], []) => linked_library()?,
+        ([], [_, command @ ..]) => Box::new(Host::start(command)?),
+        _ => return Err(usage.into()),
+    };
+    let mut library = match mistake {
+        [] => library,
+        [_, name] => planted(library, name)?,
+        _ => return Err(usage.into()),
+    };
     let tally = compare(&mut *library, seed, count)?;
     tell(name, &*library, &tally);
     Ok(tally.differences.len())
+}
+
+/// The words before the first such word, and from it on.
+fn cut<'a>(words: &'a [String], at: &str) -> (&'a [String], &'a [String]) {
+    words.split_at(words.iter().position(|word| word == at).unwrap_or(words.len()))
 }
 
 fn number(word: Option<&String>, otherwise: u64) -> Result<u64, String> {
     word.map_or(Ok(otherwise), |word| word.parse().map_err(|_| format!("{word} is no number")))
 }
 
-fn library(host: &[String], mistake: Option<&String>) -> Result<Box<dyn Library>, String> {
-    let library: Box<dyn Library> = match host {
-        [] => Box::new(StandIn),
-        _ => Box::new(Host::start(host)?),
-    };
-    let Some(name) = mistake else {
-        return Ok(library);
-    };
+#[cfg(feature = "linked")]
+fn linked_library() -> Result<Box<dyn Library>, String> {
+    Ok(Box::<compare::linked::Linked>::default())
+}
+
+#[cfg(not(feature = "linked"))]
+fn linked_library() -> Result<Box<dyn Library>, String> {
+    Err("built without the feature that links the library".into())
+}
+
+fn planted(library: Box<dyn Library>, name: &str) -> Result<Box<dyn Library>, String> {
     let found = MISTAKES.iter().find(|mistake| mistake.0 == name);
     let &(_, mistake) = found.ok_or(format!("no mistake is called {name}"))?;
     Ok(Box::new(Planted { library, mistake }))

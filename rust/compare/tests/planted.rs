@@ -47,7 +47,23 @@ fn a_host_that_ends_is_told() {
 
 #[test]
 fn unknown_words_are_refused() {
-    for words in [&["drown"][..], &[], &["drawn", "x"], &["drawn", "1", "1", "--plant", "x"]] {
-        assert!(!run(words).0, "{words:?}");
+    for line in [
+        "drown",
+        "",
+        "drawn x",
+        "drawn 1 1 --plant x",
+        "drawn 1 1 --plant",
+        "drawn 1 1 --",
+        "drawn 1 1 --linked -- true",
+    ] {
+        let words: Vec<&str> = line.split_whitespace().collect();
+        assert!(!run(&words).0, "{line}");
     }
+}
+
+/// The model doesn't stand in for what was not linked.
+#[cfg(not(feature = "linked"))]
+#[test]
+fn nothing_stands_in_for_the_linked_library() {
+    assert_eq!(run(&["drawn", "9", "100", "--linked"]), (false, String::new()));
 }
