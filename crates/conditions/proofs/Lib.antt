@@ -4,3 +4,4 @@ pub mod Leaves
 pub mod Deciding
 pub mod Lying
 pub mod Walk
+pub mod Unique

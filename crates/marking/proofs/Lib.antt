@@ -2,3 +2,4 @@
 pub mod Lists
 pub mod Marking
 pub mod Whole
+pub mod Unique
