@@ -2,7 +2,7 @@
 use mathlib.Core.Path.{_≡_, refl, sym, ap, ap₂, _∙_}
 use mathlib.Core.Bool.{Bool, true, false, cond}
 use mathlib.Core.List.{List}
-use Prim.Native.Nat.{ℕ, _+_, _*_, _^_, _/_, _≤_, _<_}
+use Prim.Native.Nat.{ℕ, _+_, _*_, _^_, _/_, _%_, _≤_, _<_}
 use native.Mathlib.Omega.{arith}
 use native.Mathlib.Nat.{add-zero}
 use lib.ListN.{length}
@@ -10,8 +10,8 @@ use lib.IntN.{ℤ, pos}
 use lib.Dec.{eqb}
 use borrow.Author.Tests.{lt-ltb, le-ltb}
 use mir.Syntax.{w32}
-use mir.Val.{SFits, ofZ}
-use mir.Facts.{fits-ofZ}
+use mir.Val.{SFits, toZ, ofZ}
+use mir.Facts.{fits-ofZ, ofZ-toZ}
 use Rattle.cells.specs.Cell.{WellFormed, kindOf, wordOf, refOf, Inside}
 use Rattle.cells.specs.declared.ValueRef.{ValueRef}
 use Rattle.cells.specs.declared.ValueRef.the-variants.{Null, Int, Str, Binary}
@@ -21,7 +21,8 @@ use Rattle.values.specs.Value.{Value, null, int, str, binary, toValue, valueOf,
 use Rattle.values.specs.Order.{order}
 use Rattle.values.proofs.ByWord.{value-int}
 use Rattle.integers.specs.Outcome.{Outcome, value, Reply, gave, cellAt, placed}
-use Rattle.integers.specs.Integer.{intOf, fitted, isInt32, isZero, isAmount, onInts, negated, inverted}
+use Rattle.integers.specs.Integer.{intOf, onBits, fitted, isInt32, isZero, isAmount, onInts, negated, inverted}
+use Rattle.integers.proofs.Placing.{placed-bits}
 use Rattle.operators.specs.Operator.{holds, compared, onInt, unaryOf}
 use Rattle.operators.specs.declared.Rules.{Rules}
 use Rattle.operators.proofs.ByKind.{binary-compared, binary-ints}
@@ -149,3 +150,18 @@ module _ (R : Rules) (op : ℕ) where
 
 pub tells-same : (r : ℕ) (o p : Outcome) → p ≡ o → Tells r o → Tells r p
 tells-same r o p e t = record { told = λ top. t .told top ∙ ap (placed top) (sym e) }
+
+-- ---- on bits
+
+module _ (f : ℕ → ℕ → ℕ) (small : (k a b : ℕ) → a < 2 ^ k → b < 2 ^ k → f a b < 2 ^ k) (a b : ℕ) where
+  pub bits-fit : f (a % 2 ^ 32) (b % 2 ^ 32) < 2 ^ 32
+  bits-fit = small 32 (a % 2 ^ 32) (b % 2 ^ 32) (omega arith) (omega arith)
+
+  bits-of : (w : ℕ) → ofZ w32 (intOf w) ≡ w % 2 ^ 32
+  bits-of w = ofZ-toZ {w = w32} {n = w % 2 ^ 32} (record { fits = omega arith })
+
+  pub tells-bits : (o : Outcome) → o ≡ onBits f (intOf a) (intOf b) → Tells (2 ^ 56 + f (a % 2 ^ 32) (b % 2 ^ 32)) o
+  tells-bits o e =
+      record {
+        told = λ top. sym (ap (placed top) e ∙ ap (λ n. placed top (value (int (toZ w32 n)))) (ap₂ f (bits-of a) (bits-of b)) ∙ placed-bits top (f (a % 2 ^ 32) (b % 2 ^ 32)) bits-fit);
+      }

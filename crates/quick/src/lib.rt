@@ -44,11 +44,32 @@ fn compares(op: u64, a: u64, b: u64, used: usize) -> bool
     !(x < y)
 }
 
+// `& | ^` on the 32 bits of two Ints' words.
+fn bits(op: u64, a: u64, b: u64) -> u64
+    requires { ⌜ (42 ≤ op) × (op < 45) ⌝ }
+    ensures { λ r. ⌜ Tells r (onInts op (intOf a) (intOf b)) ⌝ }
+{
+    let x = a % 0x1_0000_0000;
+    let y = b % 0x1_0000_0000;
+    if op == 42 {
+        return 0x100_0000_0000_0000 + (x & y);
+    }
+    if op == 43 {
+        return 0x100_0000_0000_0000 + (x | y);
+    }
+    0x100_0000_0000_0000 + (x ^ y)
+}
+
 // `+` to `>>` on two Ints' words.
 fn computed(op: u64, a: u64, b: u64) -> u64
     requires { ⌜ (38 ≤ op) × (op < 47) ⌝ }
     ensures { λ r. ⌜ ((r ≡ none → ⊥) → Tells r (onInts op (intOf a) (intOf b))) ⌝ }
 {
+    if 42 <= op {
+        if op < 45 {
+            return bits(op, a, b);
+        }
+    }
     match integers::on_ints(op, a, b, 0) {
         Answer::Gave(word, _) => word,
         _ => NONE,

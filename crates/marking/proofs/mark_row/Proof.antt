@@ -5,10 +5,6 @@ use Rattle.marking.proofs.Marking.{row-tested, row-tried, row-untested}
 use borrow.Author.Needs.{needs}
 use Rattle.marking.proofs.mark_row.Statement.{statement}
 use Rattle.marking.proofs.mark_row.Tie as tie
-use Rattle.marking.proofs.mark_row.Reads as reads
-use Rattle.marking.proofs.mark_row.Lts as lts
-use Rattle.testing.proofs.test_row.Reads as test-row-reads
-use Rattle.testing.proofs.try_row.Reads as try-row-reads
 
 returns : tie.Need-returns
 returns c = λ b A. row-untested _ _ _ _ _ _ b A (c .if1 .taken)

@@ -5,13 +5,6 @@ use Rattle.quick.proofs.Telling.{tells-flag, tells-same, two-truth, two
 use borrow.Author.Needs.{needs}
 use Rattle.quick.proofs.binary.Statement.{statement}
 use Rattle.quick.proofs.binary.Tie as tie
-use Rattle.quick.proofs.binary.Reads as reads
-use Rattle.quick.proofs.binary.Lts as lts
-use Rattle.conditions.proofs.truth.Reads as truth-reads
-use Rattle.operators.proofs.compare.Reads as compare-reads
-use Rattle.operators.proofs.flag.Reads as flag-reads
-use Rattle.quick.proofs.compares.Reads as compares-reads
-use Rattle.quick.proofs.computed.Reads as computed-reads
 
 truth-requires : tie.Need-truth-requires
 truth-requires c κs = search needs

@@ -7,9 +7,6 @@ use native.Mathlib.Omega.{arith}
 use borrow.Author.Needs.{needs}
 use Rattle.quick.proofs.compares.Statement.{statement}
 use Rattle.quick.proofs.compares.Tie as tie
-use Rattle.quick.proofs.compares.Reads as reads
-use Rattle.quick.proofs.compares.Lts as lts
-use Rattle.integers.proofs.int_of.Reads as int-of-reads
 
 returns : tie.Need-returns
 unfolding holds

@@ -5,9 +5,12 @@ use Rattle.quick.proofs.Telling.{less-ints, told-anywhere}
 use borrow.Author.Needs.{needs}
 use Rattle.quick.proofs.computed.Statement.{statement}
 use Rattle.quick.proofs.computed.Tie as tie
-use Rattle.quick.proofs.computed.Reads as reads
-use Rattle.quick.proofs.computed.Lts as lts
-use Rattle.integers.proofs.on_ints.Reads as on-ints-reads
+
+bits-requires : tie.Need-bits-requires
+bits-requires c κs = search needs
+
+returns : tie.Need-returns
+returns c = λ n. c .bits .ensures
 
 on-ints-requires : tie.Need-on-ints-requires
 on-ints-requires c κs = search needs
@@ -15,11 +18,12 @@ on-ints-requires c κs = search needs
 enum-known-word : tie.Need-enum-known-word
 enum-known-word c = search needs
 
-returns : tie.Need-returns
-returns c = λ n. told-anywhere _ (less-ints _ _ _) _ _ (ap replyOf (sym (c .before .word .given .1)) ∙ c .before .before .before .on-ints .ensures)
-
 returns-2 : tie.Need-returns-2
-returns-2 c = λ n. absurd (n refl)
+returns-2 c = λ n. told-anywhere _ (less-ints _ _ _) _ _ (ap replyOf (sym (c .before .word .given .1)) ∙ c .before .before .before .on-ints .ensures)
+
+returns-3 : tie.Need-returns-3
+returns-3 c = λ n. absurd (n refl)
 
 pub computed-spec : {M : Type 1} → statement M
-computed-spec = tie.close (tie.spec on-ints-requires enum-known-word returns returns-2)
+computed-spec =
+    tie.close (tie.spec bits-requires returns on-ints-requires enum-known-word returns-2 returns-3)

@@ -4,10 +4,6 @@ use Rattle.quick.proofs.Walking.{stored-long, stands, found-answers}
 use borrow.Author.Needs.{needs}
 use Rattle.quick.proofs.evaluate.Statement.{statement}
 use Rattle.quick.proofs.evaluate.Tie as tie
-use Rattle.quick.proofs.evaluate.Reads as reads
-use Rattle.quick.proofs.evaluate.Lts as lts
-use Rattle.conditions.proofs.evaluate.Reads as evaluate-reads
-use Rattle.quick.proofs.word_of.Reads as word-of-reads
 
 slice-reshare-prefix-word-of : tie.Need-slice-reshare-prefix-word-of
 slice-reshare-prefix-word-of c = search needs

@@ -8,10 +8,6 @@ use Rattle.conditions.proofs.Leaves.{leaf-node}
 use Rattle.quick.proofs.Walking.{node-leaf, node-two, undecided, in-table, leaf-sound, leaf-found, two-known, left-below, two-below, left-stands, right-stands, two-found}
 use Rattle.quick.proofs.shallow.Statement.{statement}
 use Rattle.quick.proofs.shallow.Tie as tie
-use Rattle.quick.proofs.shallow.Reads as reads
-use Rattle.quick.proofs.shallow.Lts as lts
-use Rattle.conditions.proofs.leaf.Reads as leaf-reads
-use Rattle.quick.proofs.binary.Reads as binary-reads
 
 -- both operands stand in the table
 first-in : (c : tie.Else3) → getD (c .before .before .before .before .before .before .before .args .nodes .now) (c .before .before .before .before .before .before .before .args .k) 0 % 2 ^ 56 < length (c .before .before .before .before .before .before .before .args .nodes .now)

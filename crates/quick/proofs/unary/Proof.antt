@@ -5,9 +5,6 @@ use Rattle.quick.proofs.Telling.{less-unary, told-anywhere, any-rules}
 use borrow.Author.Needs.{needs}
 use Rattle.quick.proofs.unary.Statement.{statement}
 use Rattle.quick.proofs.unary.Tie as tie
-use Rattle.quick.proofs.unary.Reads as reads
-use Rattle.quick.proofs.unary.Lts as lts
-use Rattle.operators.proofs.unary.Reads as unary-reads
 
 unary-requires : tie.Need-unary-requires
 unary-requires c κs = search needs

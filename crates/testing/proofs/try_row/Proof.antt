@@ -5,10 +5,6 @@ use Rattle.testing.proofs.Testing.{stored-is, try-stands, tried-is, byt
 use borrow.Author.Needs.{needs}
 use Rattle.testing.proofs.try_row.Statement.{statement}
 use Rattle.testing.proofs.try_row.Tie as tie
-use Rattle.testing.proofs.try_row.Reads as reads
-use Rattle.testing.proofs.try_row.Lts as lts
-use Rattle.conditions.proofs.truth.Reads as truth-reads
-use Rattle.quick.proofs.word_of.Reads as word-of-reads
 
 sub-word-of : tie.Need-sub-word-of
 sub-word-of c = search needs
