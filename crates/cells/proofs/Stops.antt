@@ -71,6 +71,13 @@ pub inside-by : (used w : ℕ) → kindOf w ≡ 2 → startOf w + lengthOf w ≤
 unfolding reachesBeyond
 inside-by used w e h = rw (eq-eqb (kindOf w) 2 e) (le-ltb used (startOf w + lengthOf w) h)
 
+-- an Int by its high half
+pub int-never : (used w p : ℕ) → w / 2 ^ 32 ≡ 16777216 → cellStop used w p ≡ never
+unfolding bodiesOf
+int-never used w p e =
+    let k : w / 2 ^ 56 ≡ 1 = omega arith in
+    stop-never used w p (cell-by w 1 (2 ^ 32) k refl (omega arith)) (text-by used w 1 k (λ q. omega arith))
+
 -- a place tells nothing of a word's form
 pub well-formed : (used w p : ℕ) → cellStop used w p ≡ never → WellFormed used w
 well-formed used w p h = let q = never-stops used w p h in stop-never used w 0 (q .0) (q .1)

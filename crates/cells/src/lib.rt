@@ -47,10 +47,13 @@ pub fn reaches_beyond(word: u64, used: usize) -> bool
     }
 }
 
-// What is wrong with the word that stands at a place: 8, or else 3.
+// What is wrong with the word that stands at a place: 8, or else 3. An Int, the most frequent cell, is told by one comparison.
 pub fn check_cell(word: u64, used: usize, place: usize) -> Checked
     ensures { λ r. ⌜ checkedOf r ≡ cellStop used word place ⌝ }
 {
+    if word / 0x1_0000_0000 == 0x100_0000 {
+        return Checked::Sound;
+    }
     if !is_cell(word) {
         return Checked::Refused(Refusal::Malformed(place));
     }

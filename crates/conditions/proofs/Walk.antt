@@ -28,13 +28,13 @@ use Rattle.conditions.proofs.Lying.{lies-one, lies-two}
 use Rattle.conditions.proofs.Deciding.{holds-two-sided}
 
 -- one step down
-sound-step : (u w d : ℕ) (nodes : List ℕ) (k : ℕ) → Sound u w d nodes k
+pub sound-step : (u w d : ℕ) (nodes : List ℕ) (k : ℕ) → Sound u w d nodes k
     → (0 < d) × (k < length nodes) × SoundAt u w (nodeOf (getD nodes k 0)) (Sound u w (d - 1) nodes) k
 unfolding Sound
 sound-step u w zero nodes k s = absurd s
 sound-step u w (suc d) nodes k s = (omega arith, s .0, rw (sub-one (suc d)) (s .1))
 
-tree-step : (base : List ℕ) (d : ℕ) (nodes : List ℕ) (k : ℕ) → 0 < d → treeOf base d nodes k ≡ grow base (nodeOf (getD nodes k 0)) (treeOf base (d - 1) nodes) k
+pub tree-step : (base : List ℕ) (d : ℕ) (nodes : List ℕ) (k : ℕ) → 0 < d → treeOf base d nodes k ≡ grow base (nodeOf (getD nodes k 0)) (treeOf base (d - 1) nodes) k
 unfolding treeOf
 tree-step base zero nodes k h = absurd (omega arith)
 tree-step base (suc d) nodes k h = rw (sub-one (suc d))

@@ -34,7 +34,7 @@ pub fn node_of(word: u64) -> Node
 }
 
 // The word of a leaf's cell: a column's, or the literal's own.
-fn leaf(word: u64, row: &[u64], used: usize) -> u64
+pub fn leaf(word: u64, row: &[u64], used: usize) -> u64
     requires { ⌜ LeafSound used (length (now row)) word × RowSound used (now row) ⌝ }
     ensures { λ r. ⌜ LeafIs used word (now (row .entry)) r ⌝ }
 {
@@ -53,7 +53,7 @@ pub fn truth(word: u64) -> bool
 }
 
 // Whether a two-sided operator is decided by its left operand.
-fn decided(op: u64, left: u64) -> bool
+pub fn decided(op: u64, left: u64) -> bool
     ensures { λ r. ⌜ ((stored : List ℕ) → WellFormed (length stored) left → r ≡ decides op (valueOf stored left)) ⌝ }
 {
     if op == 48 {

@@ -89,7 +89,7 @@ pub fn evaluate(condition: &[u8], row: &[u64], text: &mut [u8], used: usize) -> 
     match prepare(condition, row, text.len(), used, &mut table) {
         Scanned::Denied(r) => Evaluated::Refused(r),
         Scanned::Table(n) => {
-            match conditions::evaluate(
+            match quick::evaluate(
                 Rules { limit: 1024 },
                 &table,
                 n - 1,

@@ -7,13 +7,15 @@ use native.Mathlib.Omega.{arith}
 use native.Mathlib.Nat.{sub-zero, add-mul, one-mul, mul-le-mul-right, add-sub-cancel-left}
 use native.Mathlib.Numerals.{add-one}
 use lib.ListN.{length, take, set, length-set}
+use lib.Dec.{eqb}
+use borrow.Author.Tests.{eqb-true, eqb-false}
 use Rattle.refusals.specs.Told.{told}
 use Rattle.refusals.specs.Stop.{never, stop, stopOf, orElse}
 use Rattle.refusals.specs.declared.Refusal.{Refusal}
 use Rattle.slices.specs.Splice.{piece, splice}
 use Rattle.slices.proofs.Splice.{splice-nil, splice-set}
 use Rattle.slices.proofs.Pieces.{piece-length}
-use Rattle.testing.specs.Test.{Tested, test, VerdictIs, TestIs, TestAsks}
+use Rattle.testing.specs.Test.{Tested, is, test, VerdictIs, TestIs, TestAsks}
 use Rattle.testing.specs.declared.Verdict.{Verdict}
 use Rattle.testing.specs.declared.Verdict.the-variants.{Yes, No}
 use Rattle.testing.proofs.Testing.{base, no-condition}
@@ -43,6 +45,14 @@ module _ (used place count : ℕ) (before : List ℕ) where
   pub row-tested : (after : List ℕ) (t : Tested) (v w : Verdict) → v ≡ w → (count ≡ 0 → ⊥) → TestIs used place before after v t → RowIs used place count before after (markOf w) t
   row-tested after t v w e n s =
       record { kept = s .kept; alone = λ z. absurd (n z); says = mark-is place w t (subst (λ x. VerdictIs place x t) e (s .says)) }
+
+  -- it was told by a number
+  pub row-tried : (t : Tested) (r : ℕ) → r < 2 → t ≡ is (eqb r 1) → RowIs used place count before before (Rows r) t
+  row-tried t r l e = record { kept = refl; alone = λ z. refl; says = rw e (refl, go (eqb r 1) refl) }
+    where
+      go : (y : Bool) → eqb r 1 ≡ y → r ≡ cond y 1 0
+      go true f = eqb-true r 1 f
+      go false f = let n = eqb-false r 1 f in omega arith
 
   -- no condition
   pub row-untested : (nodes row : List ℕ) (b : List ℕ) → TestAsks b used count nodes row before → count ≡ 0

@@ -32,6 +32,10 @@ fn mark_row(
     if count == 0 {
         return Marked::Rows(1);
     }
+    let tried = testing::try_row(nodes, count, row, text, used);
+    if tried < 2 {
+        return Marked::Rows(tried);
+    }
     match testing::test_row(nodes, count, row, text, used, place) {
         Verdict::Yes => Marked::Rows(1),
         Verdict::No => Marked::Rows(0),

@@ -1,8 +1,8 @@
 -- Laws of comparing two texts: from an index on, and as an order. Assumes nothing.
-use mathlib.Core.Path.{_≡_, refl, sym, ap, ap₂, _∙_}
+use mathlib.Core.Path.{_≡_, refl, sym, ap, ap₂, subst, _∙_}
 use mathlib.Core.List.{List, [], _∷_}
 use mathlib.Core.Bool.{Bool, true, false}
-use Prim.Native.Nat.{ℕ, zero, suc, _+_, _≤_, _<_}
+use Prim.Native.Nat.{ℕ, zero, suc, _+_, _-_, _≤_, _<_}
 use native.Mathlib.Omega.{arith}
 use native.Mathlib.Nat.{le-antisymm}
 use native.Mathlib.Numerals.{add-one}
@@ -45,18 +45,6 @@ module _ (a b : List ℕ) (i : ℕ) where
 
     pub same-here : getD b i 0 ≤ getD a i 0 → getD a i 0 ≤ getD b i 0 → rest a b i ≡ rest a b (i + 1)
     same-here l m = here ∙ rw (le-ltb (getD a i 0) (getD b i 0) l, le-ltb (getD b i 0) (getD a i 0) m)
-
-    pub differ-here : (getD a i 0 ≡ getD b i 0 → ⊥) → sameBytes (drop i a) (drop i b) ≡ false
-    unfolding sameBytes
-    differ-here n = rw (drop-cons a i 0 h, drop-cons b i 0 k, ne-eqb _ _ n)
-
-    pub agree-here : getD a i 0 ≡ getD b i 0 → sameBytes (drop i a) (drop i b) ≡ sameBytes (drop (i + 1) a) (drop (i + 1) b)
-    unfolding sameBytes
-    agree-here e = rw (drop-cons a i 0 h, drop-cons b i 0 k, eq-eqb _ _ e, add-one i)
-
-  pub all-agree : length a ≤ i → length b ≤ i → sameBytes (drop i a) (drop i b) ≡ true
-  unfolding sameBytes
-  all-agree h k = rw (drop-of-length-le a h, drop-of-length-le b k)
 
 -- ---- equal texts
 
@@ -115,3 +103,31 @@ same-order a b = go (byBytes a b) refl
     go Less e = differ a b (λ f. let q = self f in let z : _≡_ {A = ℕ} 0 1 = cc in omega arith)
     go Equal e = ap (sameBytes a) (sym (bytes-equal a b e)) ∙ same-self a
     go Greater e = differ a b (λ f. let q = self f in let z : _≡_ {A = ℕ} 0 1 = cc in omega arith)
+
+-- ---- from the end
+
+module _ (a b : List ℕ) where
+  -- nothing is left after the ends
+  pub ends-alike : length a ≡ length b → drop (length a) a ≡ drop (length a) b
+  ends-alike e =
+      let h : length a ≤ length a = omega arith in
+      let k : length b ≤ length a = omega arith in
+      drop-of-length-le a h ∙ sym (drop-of-length-le b k)
+
+  module _ (i : ℕ) where
+    -- a byte that differs
+    pub differ-before : (getD a (i - 1) 0 ≡ getD b (i - 1) 0 → ⊥) → sameBytes a b ≡ false
+    differ-before d = differ a b (λ e. d (ap (λ l. getD l (i - 1) 0) e))
+
+    -- a byte that agrees, before ends that do
+    pub agree-before : 0 < i → i ≤ length a → i ≤ length b → getD a (i - 1) 0 ≡ getD b (i - 1) 0 → drop i a ≡ drop i b → drop (i - 1) a ≡ drop (i - 1) b
+    agree-before h m n e f =
+        let q : i ≡ suc (i - 1) = omega arith in
+        let g : drop (suc (i - 1)) a ≡ drop (suc (i - 1)) b = subst (λ k. drop k a ≡ drop k b) q f in
+        drop-cons a (i - 1) 0 (omega arith) ∙ ap₂ _∷_ e g ∙ sym (drop-cons b (i - 1) 0 (omega arith))
+
+pub all-agree : (a b : List ℕ) (i : ℕ) → i ≤ 0 → drop i a ≡ drop i b → sameBytes a b ≡ true
+all-agree a b i h e =
+    let q : i ≡ 0 = omega arith in
+    let f : a ≡ b = subst (λ k. drop k a ≡ drop k b) q e in
+    ap (sameBytes a) (sym f) ∙ same-self a

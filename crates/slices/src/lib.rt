@@ -75,19 +75,19 @@ pub fn compare_bytes(a: &[u8], b: &[u8]) -> Ordering
     Ordering::Equal
 }
 
-// Whether two texts are equal: their lengths first, then byte by byte.
+// Whether two texts are equal: their lengths first, then byte by byte from the end, since names and keys often begin alike.
 pub fn equal_bytes(a: &[u8], b: &[u8]) -> bool
     ensures { λ r. ⌜ r ≡ sameBytes (now (a .entry)) (now (b .entry)) ⌝ }
 {
     if a.len() != b.len() {
         return false;
     }
-    let mut i: usize = 0;
-    while i < a.len() {
-        if a[i] != b[i] {
+    let mut i: usize = a.len();
+    while 0 < i {
+        if a[i - 1] != b[i - 1] {
             return false;
         }
-        i += 1;
+        i -= 1;
     }
     true
 }

@@ -6,6 +6,8 @@ use Prim.Native.Nat.{ℕ, zero, suc, _+_, _-_, _*_, _≤_, _<_}
 use native.Mathlib.Omega.{arith}
 use lib.ListN.{length, take, getD}
 use lib.Seq.{length-take-le}
+use lib.Dec.{eqb}
+use mir.Val.{boolByte}
 use Rattle.refusals.specs.Stop.{never, orElse}
 use Rattle.refusals.specs.declared.Refusal.{Refusal}
 use Rattle.refusals.proofs.First.{never-both}
@@ -23,12 +25,19 @@ use Rattle.forms.specs.declared.Scanned.the-variants.{Table}
 use Rattle.evaluation.specs.Evaluation.{stops, numbersStop, PreparedIs}
 use Rattle.evaluation.proofs.Stopping.{at-none}
 use Rattle.evaluation.proofs.Whole.{asks, denotes-tree}
+use Rattle.quick.specs.Quick.{Stands, Found}
+use Rattle.quick.proofs.Walking.{stored-long, stands}
 use Rattle.testing.specs.Test.{Tested, is, testedOf, test, VerdictIs, TestIs, TestAsks}
 use Rattle.testing.specs.declared.Verdict.{Verdict}
 use Rattle.testing.specs.declared.Verdict.the-variants.{Yes, No, Refused}
 
 abbrev pub base : Rules
 base = record { limit = 1024 }
+
+-- a truth as a number
+pub byte-is : (y : Bool) → is y ≡ is (eqb (boolByte y) 1)
+byte-is true = refl
+byte-is false = refl
 
 module _ (used n : ℕ) (nodes row text : List ℕ) where
   -- no condition
@@ -57,6 +66,17 @@ module _ (used n : ℕ) (nodes row text : List ℕ) where
             → test base b used (take used text) row ≡ testedOf (eval base (rowOf (take used text) row) (treeOf (take used text) 16 nodes (n - 1)))
         by [] A p = absurd (m (A .ready))
         by (x ∷ b) A p = unfold test in (rw (p .1 .1, denotes-tree used (take used text) nodes 16 (n - 1) (p .1 .0) (p .1 .5) (p .1 .6)))
+
+    -- the same by one word
+    pub stored-is : length (take used text) ≡ used
+    stored-is = stored-long base used used 16 (n - 1) nodes row text test-asks
+
+    pub try-stands : Stands 16 (n - 1) nodes row (take used text)
+    try-stands = stands base used used 16 (n - 1) nodes row text test-asks
+
+    pub tried-is : (w : ℕ) (y : Bool) → Found 16 (n - 1) nodes row (take used text) w
+        → ((stored : List ℕ) → WellFormed (length stored) w → y ≡ toBool (valueOf stored w)) → test base b used (take used text) row ≡ is y
+    tried-is w y f t = test-is ∙ ap testedOf (f .means base) ∙ ap is (sym (t (take used text) (f .within)))
 
     module _ (place : ℕ) (after : List ℕ) (same : length after ≡ length text) (a : Answer) (g : Answers base used used 16 (n - 1) nodes row text after a) where
       pub test-value : (w u : ℕ) (v : Verdict) → a ≡ Gave w u → ((stored : List ℕ) → WellFormed (length stored) w → VerdictIs 0 v (is (toBool (valueOf stored w))))

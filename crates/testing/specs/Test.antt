@@ -4,6 +4,7 @@ use mathlib.Core.Path.{_≡_}
 use mathlib.Core.Bool.{Bool, true, false}
 use mathlib.Core.List.{List, [], _∷_}
 use lib.ListN.{length, take, getD}
+use lib.Dec.{eqb}
 use Rattle.refusals.specs.Told.{told}
 use Rattle.refusals.specs.Stop.{Stop, never, stopOf, orElse}
 use Rattle.values.specs.Value.{Value, toBool}
@@ -55,6 +56,10 @@ abbrev pub VerdictIs : ℕ → Verdict → Tested → Type 0
 VerdictIs place Yes t = t ≡ is true
 VerdictIs place No t = t ≡ is false
 VerdictIs place (Refused r) t = (t ≡ refuses (told r .number)) × (told r .place ≡ place)
+
+-- a verdict as a number: 1 and 0 tell the truth, any other nothing
+abbrev pub TriedIs : ℕ → Tested → Type 0
+TriedIs r t = r < 2 → t ≡ is (eqb r 1)
 
 -- a test's verdict, and that the text below the mark is as it was
 pub record TestIs (used place : ℕ) (before after : List ℕ) (v : Verdict) (t : Tested) : Type 0 where

@@ -5,7 +5,7 @@ ghost use Prim.Native.Nat.{ℕ};
 ghost use lib.ListN.{length, take};
 ghost use Rattle.cells.specs.Cell.{WellFormed};
 ghost use Rattle.values.specs.Value.{valueOf, toBool};
-ghost use Rattle.testing.specs.Test.{is, test, VerdictIs, PreparedIs, TestAsks, TestIs};
+ghost use Rattle.testing.specs.Test.{is, test, VerdictIs, TriedIs, PreparedIs, TestAsks, TestIs};
 use forms::Scanned;
 use integers::Answer;
 use nodes::Allowed;
@@ -47,6 +47,19 @@ fn by_truth(word: u64) -> Verdict
         return Verdict::Yes;
     }
     Verdict::No
+}
+
+// Whether the condition holds of a row, as 1 or 0, by one word and no branch; 2 where the whole test is to be asked.
+pub fn try_row(nodes: &[u64], n: usize, row: &[u64], text: &[u8], used: usize) -> usize
+    requires { ⌜ ((b : List ℕ) × TestAsks b used n (now nodes) (now row) (now text)) × (n ≡ 0 → ⊥) ⌝ }
+    ensures { λ r. ⌜ ((b : List ℕ) → TestAsks b used n (now (nodes .entry)) (now (row .entry)) (now (text .entry)) →
+        TriedIs r (test (record { limit = 1024 }) b used (take used (now (text .entry))) (now (row .entry)))) ⌝ }
+{
+    let word = quick::word_of(nodes, n - 1, 16, row, &text[..used]);
+    if word == quick::NONE {
+        return 2;
+    }
+    conditions::truth(word) as usize
 }
 
 // The condition on the row that has this place, with the rules of the base.

@@ -1,0 +1,175 @@
+-- The laws of the walk: what a sound tree asks of its operands, and how their words make its word. Assumes nothing.
+use mathlib.Core.Path.{_≡_, refl, sym, ap, subst, _∙_}
+use mathlib.Core.Bool.{Bool, true, false}
+use mathlib.Core.List.{List}
+use Prim.Native.Nat.{ℕ, _+_, _-_, _*_, _^_, _/_, _%_, _≤_, _<_}
+use native.Mathlib.Omega.{arith}
+use lib.ListN.{length, take, getD}
+use lib.Seq.{length-take-le}
+use borrow.Author.Tests.{lt-ltb, le-ltb, ne-eqb}
+use Rattle.cells.specs.Cell.{WellFormed, kindOf, startOf}
+use Rattle.values.specs.Value.{Value, valueOf, toBool, fromBool}
+use Rattle.integers.specs.Outcome.{Outcome, value, gave, placed}
+use Rattle.integers.specs.declared.Answer.the-variants.{Gave}
+use Rattle.operators.specs.Operator.{unaryOf}
+use Rattle.operators.specs.declared.Rules.{Rules}
+use Rattle.operators.proofs.Holding.{holds-unary, holds-truth, value-int32}
+use Rattle.conditions.specs.Ast.{leaf, unary, binary, eval, decides, twoSided}
+use Rattle.conditions.specs.Table.{nodeOf, leafOf, treeOf, LeafSound, SoundAt, Sound, rowOf, RowSound, LiesAt, LeafIs, Asks, Answers, Lies}
+use Rattle.conditions.specs.declared.Node.{Node}
+use Rattle.conditions.specs.declared.Node.the-variants.{Leaf, One, Two}
+use Rattle.conditions.proofs.Giving.{well-more, value-more}
+use Rattle.conditions.proofs.Deciding.{holds-two-sided}
+use Rattle.conditions.proofs.Walk.{sound-step, tree-step}
+use Rattle.quick.specs.Quick.{none, Stands, Tells, Found}
+use Rattle.quick.proofs.Telling.{Worth, worth}
+
+-- ---- a node by its kind
+
+module _ (w : ℕ) where
+  pub node-leaf : w / 2 ^ 56 < 16 → nodeOf w ≡ Leaf w
+  unfolding nodeOf
+  node-leaf h = rw (lt-ltb (w / 2 ^ 56) 16 h)
+
+  pub node-one : 16 ≤ w / 2 ^ 56 → w / 2 ^ 56 < 32 → nodeOf w ≡ One (w / 2 ^ 56)
+  unfolding nodeOf
+  node-one h k = rw (le-ltb (w / 2 ^ 56) 16 h, lt-ltb (w / 2 ^ 56) 32 k)
+
+  pub node-two : 32 ≤ w / 2 ^ 56 → nodeOf w ≡ Two (w / 2 ^ 56) (w % 2 ^ 56)
+  unfolding nodeOf
+  node-two h = rw (le-ltb (w / 2 ^ 56) 16 (omega arith), le-ltb (w / 2 ^ 56) 32 h)
+
+-- only AND and OR can be decided by their left operand
+pub undecided : (op : ℕ) (v : Value) → op < 47 → decides op v ≡ false
+unfolding decides
+undecided op v h = rw (ne-eqb op 48 (λ e. omega arith), ne-eqb op 49 (λ e. omega arith))
+
+-- ---- the tree at k
+
+module _ (d k : ℕ) (nodes row stored : List ℕ) (S : Stands d k nodes row stored) where
+  pub in-table : k < length nodes
+  in-table = sound-step _ _ _ _ _ (S .sound) .1
+
+  pub deep : 0 < d
+  deep = sound-step _ _ _ _ _ (S .sound) .0
+
+  step : SoundAt (length stored) (length row) (nodeOf (getD nodes k 0)) (Sound (length stored) (length row) (d - 1) nodes) k
+  step = sound-step _ _ _ _ _ (S .sound) .2
+
+  pub leaf-sound : (w : ℕ) → nodeOf (getD nodes k 0) ≡ Leaf w → LeafSound (length stored) (length row) w × RowSound (length stored) row
+  leaf-sound w e = ((rw e at step), S .rows)
+
+  pub leaf-found : (w c : ℕ) → nodeOf (getD nodes k 0) ≡ Leaf w → LeafIs (length stored) w row c → Found d k nodes row stored c
+  leaf-found w c e l =
+      let q : treeOf stored d nodes k ≡ leaf (leafOf stored w) = tree-step stored d nodes k deep ∙ rw e in
+      record {
+        means = λ R. ap (eval R (rowOf stored row)) q ∙ l .means R stored;
+        within = l .within;
+        lies = λ top. rw e (l .exact);
+      }
+
+  module _ (op : ℕ) (e : nodeOf (getD nodes k 0) ≡ One op) where
+    at-one : ((16 ≤ op) × (op < 19)) × (0 < k) × Sound (length stored) (length row) (d - 1) nodes (k - 1)
+    at-one = rw e at step
+
+    pub one-known : (16 ≤ op) × (op < 19)
+    one-known = at-one .0
+
+    pub one-below : 0 < k
+    one-below = at-one .1
+
+    pub one-stands : Stands (d - 1) (k - 1) nodes row stored
+    one-stands = record { sound = at-one .2; rows = S .rows }
+
+    pub one-found : (v r : ℕ) → Found (d - 1) (k - 1) nodes row stored v
+        → ((R : Rules) (x : List ℕ) → WellFormed (length x) v → Tells r (unaryOf R op (valueOf x v))) → Found d k nodes row stored r
+    unfolding eval
+    one-found v r g f =
+        let q : treeOf stored d nodes k ≡ unary op (treeOf stored (d - 1) nodes (k - 1)) = tree-step stored d nodes k deep ∙ rw e in
+        let z : (R : Rules) → Worth stored r (unaryOf R op (valueOf stored v)) = λ R. worth stored 0 r _ (holds-unary 0 R op _) (f R stored (g .within)) in
+        let y = z (record { limit = 0 }) in
+        record {
+          means = λ R. rw (q, g .means R) (z R .means);
+          within = y .within;
+          lies = λ top. rw e (λ i. absurd (y .plain i));
+        }
+
+  module _ (op l : ℕ) (e : nodeOf (getD nodes k 0) ≡ Two op l) where
+    at-two : ((32 ≤ op) × (op < 50)) × (l < k) × Sound (length stored) (length row) (d - 1) nodes l × Sound (length stored) (length row) (d - 1) nodes (k - 1)
+    at-two = rw e at step
+
+    pub two-known : (32 ≤ op) × (op < 50)
+    two-known = at-two .0
+
+    pub left-below : l < k
+    left-below = at-two .1
+
+    pub two-below : 0 < k
+    two-below = omega (arith, at-two .1)
+
+    pub left-stands : Stands (d - 1) l nodes row stored
+    left-stands = record { sound = at-two .2; rows = S .rows }
+
+    pub right-stands : Stands (d - 1) (k - 1) nodes row stored
+    right-stands = record { sound = at-two .3; rows = S .rows }
+
+    two-tree : treeOf stored d nodes k ≡ binary op (treeOf stored (d - 1) nodes l) (treeOf stored (d - 1) nodes (k - 1))
+    two-tree = tree-step stored d nodes k deep ∙ rw e
+
+    module _ (v : ℕ) (g : Found (d - 1) l nodes row stored v) where
+      -- the left operand decides
+      pub left-found : (r : ℕ) (y : Bool) → decides op (valueOf stored v) ≡ true → y ≡ toBool (valueOf stored v)
+          → ((top : ℕ) → gave r top ≡ placed top (value (fromBool y))) → Found d k nodes row stored r
+      unfolding eval
+      left-found r y t j f =
+          let z = worth stored 0 r (value (fromBool y)) (holds-truth 0 y) (record { told = f }) in
+          record {
+            means = λ R. rw (two-tree, g .means R, t, ← j) (z .means);
+            within = z .within;
+            lies = λ top. rw e (λ i. absurd (z .plain i));
+          }
+
+      -- it doesn't, and the right one has a word too
+      pub two-found : decides op (valueOf stored v) ≡ false → (w r : ℕ) → Found (d - 1) (k - 1) nodes row stored w
+          → ((R : Rules) → Tells r (twoSided R op (valueOf stored v) (valueOf stored w))) → Found d k nodes row stored r
+      unfolding eval
+      two-found t w r i f =
+          let z : (R : Rules) → Worth stored r (twoSided R op (valueOf stored v) (valueOf stored w)) =
+          λ R. worth stored (R .limit) r _ (holds-two-sided R op _ _ (value-int32 stored v) (value-int32 stored w)) (f R) in
+          let y = z (record { limit = 0 }) in
+          record {
+            means = λ R. rw (two-tree, g .means R, t, i .means R) (z R .means);
+            within = y .within;
+            lies = λ top. rw e (λ j. absurd (y .plain j));
+          }
+
+-- ---- as evaluation answers
+
+module _ (R : Rules) (used top d k : ℕ) (nodes row text : List ℕ) (A : Asks R used top d k nodes row text) where
+  text-room : used ≤ length text
+  text-room = omega (arith, A .marks, A .room)
+
+  pub stored-long : length (take used text) ≡ used
+  stored-long = length-take-le used text text-room
+
+  pub stands : Stands d k nodes row (take used text)
+  stands =
+      record {
+        sound = subst (λ n. Sound n (length row) d nodes k) (sym stored-long) (A .sound);
+        rows = subst (λ n. RowSound n row) (sym stored-long) (A .rows);
+      }
+
+  pub found-answers : (r : ℕ) → Found d k nodes row (take used text) r → Answers R used top d k nodes row text text (Gave r top) × Lies top (nodeOf (getD nodes k 0)) row (Gave r top)
+  found-answers r f =
+      let h : WellFormed used r = subst (λ n. WellFormed n r) stored-long (f .within) in (
+        record {
+          kept = refl;
+          says = (
+            f .means R ∙ ap value (sym (value-more used top text text r (A .marks) h refl)),
+            well-more used top r (A .marks) h,
+            omega arith,
+            omega arith,
+          );
+        },
+        f .lies top,
+      )
