@@ -3,3 +3,4 @@ pub mod Stack
 pub mod Words
 pub mod Steps
 pub mod Scanning
+pub mod Numbers
