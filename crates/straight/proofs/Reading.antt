@@ -11,8 +11,8 @@ use lib.Dec.{eqb, leb}
 use borrow.Author.Tests.{le-ltb, eq-eqb, ne-eqb, lt-leb, leb-false}
 use Rattle.refusals.specs.Stop.{never}
 use Rattle.slices.specs.Bytes.{both}
-use Rattle.cells.specs.Cell.{isCell, reachesBeyond}
-use Rattle.cells.proofs.Stops.{stop-never}
+use Rattle.cells.specs.Cell.{WellFormed, bodiesOf}
+use Rattle.cells.proofs.Stops.{stop-never, never-stops, cell-by, text-by}
 use Rattle.checks.specs.Check.{roomStop, cellsStop}
 use Rattle.checks.proofs.Turns.{cells-turn, cells-sound}
 use Rattle.conditions.specs.Table.{leafCell, LeafSound, RowSound, LeafIs}
@@ -28,11 +28,18 @@ use Rattle.straight.specs.Straight.{LeafRead}
 pub no : {X : Type 0} → true ≡ false → X
 no e = absurd (let z : _≡_ {A = ℕ} 0 1 = cc in omega arith)
 
+-- an Int by its upper half
+pub int-fine : (used w : ℕ) → w / 4294967296 ≡ 16777216 → WellFormed used w
+unfolding bodiesOf
+int-fine used w e =
+    let k : w / 2 ^ 56 ≡ 1 = omega arith in
+    stop-never used w 0 (cell-by w 1 (2 ^ 32) k refl (omega arith)) (text-by used w 1 k (λ x. omega arith))
+
 -- a cell of a row that is not refused
-pub cell-passed : (used : ℕ) (ws : List ℕ) (i : ℕ) → i < length ws → isCell (getD ws i 0) ≡ true → reachesBeyond used (getD ws i 0) ≡ false
-    → cellsStop used i (drop i ws) ≡ cellsStop used (i + 1) (drop (i + 1) ws)
-cell-passed used ws i h k l =
-    cells-turn used i ws i h ∙ rw (stop-never used (getD ws i 0) i k l) (ap (λ p. cellsStop used p (drop (i + 1) ws)) (sym (add-one i)))
+pub cell-passed : (used : ℕ) (ws : List ℕ) (i : ℕ) → i < length ws → WellFormed used (getD ws i 0) → cellsStop used i (drop i ws) ≡ cellsStop used (i + 1) (drop (i + 1) ws)
+cell-passed used ws i h k =
+    let q = never-stops used (getD ws i 0) 0 k in
+    cells-turn used i ws i h ∙ rw (stop-never used (getD ws i 0) i (q .0) (q .1)) (ap (λ p. cellsStop used p (drop (i + 1) ws)) (sym (add-one i)))
 
 pub row-sound : (row text : List ℕ) (used : ℕ) → used ≤ length text → cellsStop used 0 row ≡ never → RowSound (length (take used text)) row
 row-sound row text used h c = record { cells = rw (length-take-le used text h) (cells-sound used 0 row c) }

@@ -21,8 +21,8 @@ use Rattle.forms.specs.Number.{isMissing, numbersStop}
 use Rattle.forms.proofs.Steps.{to-leaf, to-two}
 use Rattle.forms.proofs.Scanning.{parse-more, parse-end}
 use Rattle.forms.proofs.Numbers.{numbers-turn, numbers-end}
-use Rattle.wordwise.specs.Settled.{nothing, Settled, onBoth}
-use Rattle.straight.specs.Straight.{LeafRead, MayCome, IsWhole, Ran}
+use Rattle.wordwise.specs.Settled.{nothing, Settled, onBoth, IsTwoSided}
+use Rattle.straight.specs.Straight.{LeafRead, IsWhole, Ran}
 use Rattle.straight.proofs.Reading.{leaf-is}
 use Rattle.straight.proofs.Stacking.{Valued, Stacked, valued-leaf, valued-two, stacked-more, push}
 
@@ -31,10 +31,10 @@ unfoldable pub total : List (Tree ℕ) → ℕ
 total [] = 0
 total (t ∷ s) = size t + total s
 
--- m nodes were read, which are a stack's; `done` of them were operators
+-- m nodes were read, which are a stack's; `done` of them were operators, and with at most 15 none is refused
 pub record Reached (b row stored : List ℕ) (n done at m : ℕ) (s : List (Tree ℕ)) : Type 0 where
-  pub form : parsed Bound (length stored) b ≡ parse Bound (length stored) b (64 - m) at s
-  pub numbers : numbersStop (length row) b 64 0 ≡ numbersStop (length row) b (64 - m) at
+  pub form : done ≤ 15 → parsed Bound (length stored) b ≡ parse Bound (length stored) b (64 - m) at s
+  pub numbers : done ≤ 15 → numbersStop (length row) b 64 0 ≡ numbersStop (length row) b (64 - m) at
   pub least : n + done ≤ m
   pub most : m ≤ n + (done + done)
   pub nodes : total s ≡ m
@@ -42,7 +42,7 @@ pub record Reached (b row stored : List ℕ) (n done at m : ℕ) (s : List (Tree
 pub record Running (b row stored stack : List ℕ) (n done at : ℕ) : Type 0 where
   pub long : length stack ≡ 16
   pub few : n ≤ 16
-  pub worked : done ≤ 15
+  pub worked : done ≤ at
   pub inside : at ≤ length b
   pub same : (m : ℕ) × (s : List (Tree ℕ)) × Stacked stored row stack (done + 1) n s × Reached b row stored n done at m s
 
@@ -53,7 +53,7 @@ run-start b row stored stack h = record {
   few = omega arith;
   worked = omega arith;
   inside = omega arith;
-  same = (0, [], refl, record { form = refl; numbers = refl; least = omega arith; most = omega arith; nodes = refl });
+  same = (0, [], refl, record { form = λ d. refl; numbers = λ d. refl; least = omega arith; most = omega arith; nodes = refl });
 }
 
 known-two : (k : ℕ) → 32 ≤ k → k < 50 → (k ≡ 47 → ⊥) → known Bound k ≡ true
@@ -86,21 +86,21 @@ module _ (b row stored stack : List ℕ) (n done at : ℕ) (S : Running b row st
   so-far : Reached b row stored n done at m s
   so-far = S .same .3
 
-  count : m < 64
-  count = omega (arith, so-far .most, S .few, S .worked)
+  count : done ≤ 15 → m < 64
+  count d = omega (arith, so-far .most, S .few)
 
   module _ (h : at < length b) (k : ℕ) (e : k ≡ getD b at 0) where
     -- one node on, whatever it is
-    next-form : (s′ : List (Tree ℕ)) (next : ℕ) → nodeAt Bound used b at (getD b at 0) s ≡ go s′ next → parsed Bound used b ≡ parse Bound used b (64 - (m + 1)) next s′
-    next-form s′ next q =
-        let f : 64 - m ≡ suc (64 - (m + 1)) = omega (arith, count) in
-        so-far .form ∙ ap (λ f. parse Bound used b f at s) f ∙ parse-more Bound used b (64 - (m + 1)) at s h
+    next-form : done ≤ 15 → (s′ : List (Tree ℕ)) (next : ℕ) → nodeAt Bound used b at (getD b at 0) s ≡ go s′ next → parsed Bound used b ≡ parse Bound used b (64 - (m + 1)) next s′
+    next-form d s′ next q =
+        let f : 64 - m ≡ suc (64 - (m + 1)) = omega (arith, count d) in
+        so-far .form d ∙ ap (λ f. parse Bound used b f at s) f ∙ parse-more Bound used b (64 - (m + 1)) at s h
         ∙ ap (λ y. follow y at (λ s′ next. parse Bound used b (64 - (m + 1)) next s′)) q
 
-    next-numbers : isMissing (length row) b at ≡ false → numbersStop (length row) b 64 0 ≡ numbersStop (length row) b (64 - (m + 1)) (at + 1 + bodyOf k)
-    next-numbers q =
-        let c = count in
-        so-far .numbers ∙ numbers-turn (length row) b m at (omega arith) (λ x. omega arith) h q ∙ ap (λ x. numbersStop (length row) b (64 - (m + 1)) (at + 1 + bodyOf x)) (sym e)
+    next-numbers : done ≤ 15 → isMissing (length row) b at ≡ false → numbersStop (length row) b 64 0 ≡ numbersStop (length row) b (64 - (m + 1)) (at + 1 + bodyOf k)
+    next-numbers d q =
+        let c = count d in
+        so-far .numbers d ∙ numbers-turn (length row) b m at (omega arith) (λ x. omega arith) h q ∙ ap (λ x. numbersStop (length row) b (64 - (m + 1)) (at + 1 + bodyOf x)) (sym e)
 
     -- ---- a leaf
     module _ (B : (i : ℕ) → getD b i 0 < 256) (rows : RowSound used row) (l : k < 16) (room : n ≡ 16 → ⊥) (r : ℕ) (R : LeafRead used b row at k r) where
@@ -112,15 +112,15 @@ module _ (b row stored stack : List ℕ) (n done at : ℕ) (S : Running b row st
       run-leaf = record {
         long = simp length-set (S .long);
         few = omega (arith, leaf-room);
-        worked = S .worked;
+        worked = omega (arith, S .worked);
         inside = R .inside;
         same = (
           m + 1,
           leaf (leafWord b at k) ∷ s,
           push stored row (done + 1) stack n r (leaf (leafWord b at k)) s (omega (arith, leaf-room, S .long)) (valued-leaf stored row (done + 1) (leafWord b at k) r (omega arith) (leaf-is used at b row B rows k r l (sym e) R)) held,
           record {
-            form = next-form (leaf (leafWord b at k) ∷ s) (at + 1 + bodyOf k) (to-leaf Bound used at b k e s (R .kind) (R .inside) l (R .fits));
-            numbers = next-numbers (R .there);
+            form = λ d. next-form d (leaf (leafWord b at k) ∷ s) (at + 1 + bodyOf k) (to-leaf Bound used at b k e s (R .kind) (R .inside) l (R .fits));
+            numbers = λ d. next-numbers d (R .there);
             least = omega (arith, so-far .least);
             most = omega (arith, so-far .most);
             nodes = omega (arith, so-far .nodes);
@@ -129,46 +129,27 @@ module _ (b row stored stack : List ℕ) (n done at : ℕ) (S : Running b row st
       }
 
     -- ---- an operator
-    module _ (M : MayCome k n done) where
-      kind : known Bound k ≡ true
-      kind = known-two k (M .above) (M .below) (M .known)
-
-      body : bodyOf k ≡ 0
-      body = no-body k (omega (arith, M .above))
-
-      there : isMissing (length row) b at ≡ false
-      there = rw (ne-eqb (getD b at 0) 4 (λ x. omega (arith, M .above)))
-
+    module _ (operands : 2 ≤ n) where
       -- the two operands
       record Pair : Type 0 where
         left : Tree ℕ
         right : Tree ℕ
         rest : List (Tree ℕ)
         is : s ≡ right ∷ (left ∷ rest)
-        left-value : Valued stored row (done + 1) left (getD stack (n - 2) 0)
+        left-value : Valued stored row (done + 1) left (getD stack (n - 1 - 1) 0)
         right-value : Valued stored row (done + 1) right (getD stack (n - 1) 0)
-        below : Stacked stored row stack (done + 1) (n - 2) rest
+        below : Stacked stored row stack (done + 1) (n - 1 - 1) rest
 
       pair : Pair
       unfolding Stacked
       pair = by s refl held
         where
           by : (u : List (Tree ℕ)) → s ≡ u → Stacked stored row stack (done + 1) n u → Pair
-          by [] q d = absurd (let z : ⊥ = omega (arith, M .operands) in z)
-          by (t ∷ []) q d = absurd (let d′ = d .2 in let z : ⊥ = omega (arith, M .operands) in z)
-          by (t ∷ (u ∷ s)) q d =
-              let f : n - 1 - 1 ≡ n - 2 = omega arith in
-              record {
-                left = u;
-                right = t;
-                rest = s;
-                is = q;
-                left-value = subst (λ i. Valued stored row (done + 1) u (getD stack i 0)) f (d .2 .1);
-                right-value = d .1;
-                below = subst (λ i. Stacked stored row stack (done + 1) i s) f (d .2 .2);
-              }
+          by [] q d = absurd (let z : ⊥ = omega arith in z)
+          by (t ∷ []) q d = absurd (let e = d .2 in let z : ⊥ = omega arith in z)
+          by (t ∷ (u ∷ s)) q d = record { left = u; right = t; rest = s; is = q; left-value = d .2 .1; right-value = d .1; below = d .2 .2 }
 
-      pub left-fine : WellFormed used (getD stack (n - 2) 0)
+      pub left-fine : WellFormed used (getD stack (n - 1 - 1) 0)
       left-fine = pair .left-value .fine
 
       pub right-fine : WellFormed used (getD stack (n - 1) 0)
@@ -177,47 +158,53 @@ module _ (b row stored stack : List ℕ) (n done at : ℕ) (S : Running b row st
       abbrev joint : Tree ℕ
       joint = binary k (pair .left) (pair .right)
 
-      goes : nodeAt Bound used b at (getD b at 0) s ≡ go (joint ∷ pair .rest) (at + 1)
-      unfolding height
-      goes =
-          let f : at + 1 + bodyOf k ≡ at + 1 = omega (arith, body) in
-          let d : leb (max (height (pair .left)) (height (pair .right)) + 1) 16 ≡ true = le-leb (max (height (pair .left)) (height (pair .right)) + 1) 16 (omega (arith, pair .left-value .low, pair .right-value .low, M .few)) in
-          to-two Bound used at b k e s kind (omega (arith, body)) (M .above) ∙ ap (λ x. onTwo k s x) f ∙ ap (λ x. onTwo k x (at + 1)) (pair .is) ∙ rw d
+      module _ (K : IsTwoSided k) where
+        body : bodyOf k ≡ 0
+        body = no-body k (omega (arith, K .above))
 
-      module _ (r : ℕ) (given : r ≡ nothing → ⊥) (settled : (R : Rules) → Settled r (onBoth R k (valueOf stored (getD stack (n - 2) 0)) (valueOf stored (getD stack (n - 1) 0)))) where
-        pub run-two : Running b row stored (set stack (n - 2) r) (n - 1) (done + 1) (at + 1)
-        unfolding total size
-        run-two =
-            let o = M .operands in
-            let f : n - 2 + 1 ≡ n - 1 = omega arith in
-            let p = pair in
-            let whole : total s ≡ size (p .right) + (size (p .left) + total (p .rest)) = ap total (p .is) in
-            record {
-              long = simp length-set (S .long);
-              few = omega (arith, S .few);
-              worked = omega (arith, M .few);
-              inside = omega arith;
-              same = (
-                m + 1,
-                joint ∷ p .rest,
-                subst (λ i. Stacked stored row (set stack (n - 2) r) (done + 1 + 1) i (joint ∷ p .rest)) f
-                    (push stored row (done + 1 + 1) stack (n - 2) r joint (p .rest) (omega (arith, S .few, S .long))
-                    (valued-two stored row (done + 1) k (p .left) (p .right) _ _ r (p .left-value) (p .right-value) given settled)
-                    (stacked-more stored row (done + 1) stack (n - 2) (p .rest) (p .below))),
-                record {
-                  form = next-form (joint ∷ p .rest) (at + 1) goes;
-                  numbers = next-numbers there ∙ ap (λ x. numbersStop (length row) b (64 - (m + 1)) x) (let g : at + 1 + bodyOf k ≡ at + 1 = omega (arith, body) in g);
-                  least = omega (arith, so-far .least);
-                  most = omega (arith, so-far .most);
-                  nodes = omega (arith, so-far .nodes);
-                },
-              );
-            }
+        there : isMissing (length row) b at ≡ false
+        there = rw (ne-eqb (getD b at 0) 4 (λ x. omega (arith, K .above)))
+
+        goes : done + 1 ≤ 15 → nodeAt Bound used b at (getD b at 0) s ≡ go (joint ∷ pair .rest) (at + 1)
+        unfolding height
+        goes few =
+            let f : at + 1 + bodyOf k ≡ at + 1 = omega (arith, body) in
+            let d : leb (max (height (pair .left)) (height (pair .right)) + 1) 16 ≡ true = le-leb (max (height (pair .left)) (height (pair .right)) + 1) 16 (omega (arith, pair .left-value .low, pair .right-value .low)) in
+            to-two Bound used at b k e s (known-two k (K .above) (K .below) (K .known)) (omega (arith, body)) (K .above) ∙ ap (λ x. onTwo k s x) f ∙ ap (λ x. onTwo k x (at + 1)) (pair .is) ∙ rw d
+
+        module _ (r : ℕ) (given : r ≡ nothing → ⊥) (settled : (R : Rules) → Settled r (onBoth R k (valueOf stored (getD stack (n - 1 - 1) 0)) (valueOf stored (getD stack (n - 1) 0)))) where
+          pub run-two : Running b row stored (set stack (n - 1 - 1) r) (n - 1) (done + 1) (at + 1)
+          unfolding total size
+          run-two =
+              let f : n - 1 - 1 + 1 ≡ n - 1 = omega arith in
+              let p = pair in
+              let whole : total s ≡ size (p .right) + (size (p .left) + total (p .rest)) = ap total (p .is) in
+              record {
+                long = simp length-set (S .long);
+                few = omega (arith, S .few);
+                worked = omega (arith, S .worked);
+                inside = omega arith;
+                same = (
+                  m + 1,
+                  joint ∷ p .rest,
+                  subst (λ i. Stacked stored row (set stack (n - 1 - 1) r) (done + 1 + 1) i (joint ∷ p .rest)) f
+                      (push stored row (done + 1 + 1) stack (n - 1 - 1) r joint (p .rest) (omega (arith, S .few, S .long))
+                      (valued-two stored row (done + 1) k (p .left) (p .right) _ _ r (p .left-value) (p .right-value) given settled)
+                      (stacked-more stored row (done + 1) stack (n - 1 - 1) (p .rest) (p .below))),
+                  record {
+                    form = λ d. next-form (omega arith) (joint ∷ p .rest) (at + 1) (goes d);
+                    numbers = λ d. next-numbers (omega arith) there ∙ ap (λ x. numbersStop (length row) b (64 - (m + 1)) x) (let g : at + 1 + bodyOf k ≡ at + 1 = omega (arith, body) in g);
+                    least = omega (arith, so-far .least);
+                    most = omega (arith, so-far .most);
+                    nodes = omega (arith, so-far .nodes);
+                  },
+                );
+              }
 
   -- ---- the end of the bytes
   pub run-end : length b ≤ at → (w r : ℕ) → w ≡ getD stack 0 0 → IsWhole n done w r → Ran b row stored r
   unfolding Stacked total
-  run-end h w r q W = by s held (so-far .nodes) (so-far .form ∙ parse-end Bound used b (64 - m) at s h)
+  run-end h w r q W = by s held (so-far .nodes) (so-far .form (W .few) ∙ parse-end Bound used b (64 - m) at s h)
     where
       by : (u : List (Tree ℕ)) → Stacked stored row stack (done + 1) n u → total u ≡ m → parsed Bound used b ≡ finish u at → Ran b row stored r
       by [] d c p = absurd (let o = W .one in let z : ⊥ = omega arith in z)
@@ -228,7 +215,7 @@ module _ (b row stored stack : List ℕ) (n done at : ℕ) (S : Running b row st
           record {
             tree = t;
             form = p;
-            numbers = so-far .numbers ∙ numbers-end (length row) b (64 - m) at h;
+            numbers = so-far .numbers (W .few) ∙ numbers-end (length row) b (64 - m) at h;
             more = omega (arith, so-far .least, W .some);
             means = v .means;
             fine = v .fine;

@@ -25,18 +25,11 @@ pub record LeafRead (used : ℕ) (b row : List ℕ) (at k r : ℕ) : Type 0 wher
   pub there : isMissing (length row) b at ≡ false
   pub cell : r ≡ leafCell row (leafWord b at k)
 
--- a two-sided operator that may come next: a known kind, two operands on the stack, and a tree that stays at most 16 deep
-pub record MayCome (k n done : ℕ) : Type 0 where
-  pub above : 32 ≤ k
-  pub below : k < 50
-  pub known : k ≡ 47 → ⊥
-  pub operands : 2 ≤ n
-  pub few : done < 15
-
--- the end of a pass: one value is left, of a tree with an operator, and it is no text
+-- the end of a pass: one value is left, of a tree with 1 to 15 operators, and it is no text
 pub record IsWhole (n done word r : ℕ) : Type 0 where
   pub one : n ≡ 1
   pub some : 0 < done
+  pub few : done ≤ 15
   pub plain : kindOf word ≡ 2 → ⊥
   pub same : r ≡ word
 

@@ -5,10 +5,24 @@ ghost use mathlib.Core.Bool.{true};
 ghost use Prim.Native.Nat.{_+_, _<_, _≤_};
 ghost use lib.ListN.{length, getD};
 ghost use Rattle.refusals.specs.Stop.{never};
+ghost use Rattle.cells.specs.Cell.{WellFormed};
 ghost use Rattle.checks.specs.Check.{cellsStop};
 ghost use Rattle.conditions.specs.Table.{RowSound};
 ghost use Rattle.wordwise.specs.Settled.{nothing};
-ghost use Rattle.straight.specs.Straight.{LeafRead, MayCome, IsWhole, Ran, Straight};
+ghost use Rattle.straight.specs.Straight.{LeafRead, IsWhole, Ran, Straight};
+
+// Whether a word is well formed below the mark: an Int is, by its upper half.
+fn is_fine(word: u64, used: usize) -> bool
+    ensures { λ r. ⌜ (r ≡ true → WellFormed used word) ⌝ }
+{
+    if word / 0x1_0000_0000 == 0x100_0000 {
+        return true;
+    }
+    if cells::is_cell(word) {
+        return !cells::reaches_beyond(word, used);
+    }
+    false
+}
 
 // Whether all cells of a row are well formed below the mark.
 fn are_cells(row: &[u64], used: usize) -> bool
@@ -16,11 +30,7 @@ fn are_cells(row: &[u64], used: usize) -> bool
 {
     let mut i: usize = 0;
     while i < row.len() {
-        let word = row[i];
-        if !cells::is_cell(word) {
-            return false;
-        }
-        if cells::reaches_beyond(word, used) {
+        if !is_fine(row[i], used) {
             return false;
         }
         i += 1;
@@ -72,26 +82,8 @@ fn leaf(b: &[u8], at: usize, k: u64, row: &[u64], used: usize) -> u64
     0xffff_ffff_ffff_ffff
 }
 
-// Whether a two-sided operator of this kind may come next. 15 operators make no tree that is more than 16 deep.
-fn may_come(k: u64, n: usize, done: usize) -> bool
-    ensures { λ r. ⌜ (r ≡ true → MayCome k n done) ⌝ }
-{
-    if k < 32 {
-        return false;
-    }
-    if 49 < k {
-        return false;
-    }
-    if k == 47 {
-        return false;
-    }
-    if n < 2 {
-        return false;
-    }
-    done < 15
-}
-
 // The value of the whole, from how many values are left and the first: of one tree with an operator, and no text.
+// 15 operators make no tree that is more than 16 deep.
 fn whole(n: usize, done: usize, word: u64) -> u64
     ensures { λ r. ⌜ ((r ≡ nothing → ⊥) → IsWhole n done word r) ⌝ }
 {
@@ -99,6 +91,9 @@ fn whole(n: usize, done: usize, word: u64) -> u64
         return 0xffff_ffff_ffff_ffff;
     }
     if done == 0 {
+        return 0xffff_ffff_ffff_ffff;
+    }
+    if 15 < done {
         return 0xffff_ffff_ffff_ffff;
     }
     if word / 0x100_0000_0000_0000 == 2 {
@@ -131,15 +126,15 @@ fn run(b: &[u8], row: &[u64], stored: &[u8]) -> u64
             at = at + 1 + nodes::body_of(k);
             continue;
         }
-        if !may_come(k, n, done) {
+        if n < 2 {
             return 0xffff_ffff_ffff_ffff;
         }
-        let word = wordwise::two(k, stack[n - 2], stack[n - 1], stored);
+        n -= 1;
+        let word = wordwise::two(k, stack[n - 1], stack[n], stored);
         if word == 0xffff_ffff_ffff_ffff {
             return 0xffff_ffff_ffff_ffff;
         }
-        stack[n - 2] = word;
-        n -= 1;
+        stack[n - 1] = word;
         done += 1;
         at += 1;
     }

@@ -1,14 +1,11 @@
 -- `straight::are_cells` meets its contract. The loop's invariant: the cells are refused as those that are left. Assumes nothing.
 use mathlib.Core.Path.{_≡_, refl, sym, _∙_}
 use Prim.Native.Nat.{_-_, _≤_}
-use native.Mathlib.Numerals.{add-one}
 use lib.ListN.{length, drop}
 use borrow.Author.Tests.{not-false}
-use Rattle.cells.proofs.Stops.{stop-never}
 use Rattle.checks.specs.Check.{cellsStop}
 use Rattle.straight.proofs.Reading.{no, cell-passed}
 use Rattle.checks.proofs.Turns.{cells-end}
-use native.Mathlib.Omega.{arith}
 use borrow.Author.Needs.{needs}
 use Rattle.straight.proofs.are_cells.Statement.{statement}
 use Rattle.straight.proofs.are_cells.Tie as tie
@@ -22,23 +19,17 @@ abbrev μ-loop : tie.MeasureT-loop
 loop-holds : tie.Need-loop-holds Inv-loop μ-loop
 loop-holds c = (search needs, refl)
 
-mul-word : tie.Need-mul-word Inv-loop μ-loop
-mul-word c = search needs
+mul-is-fine : tie.Need-mul-is-fine Inv-loop μ-loop
+mul-is-fine c = search needs
 
-shared-slice-read-word : tie.Need-shared-slice-read-word Inv-loop μ-loop
-shared-slice-read-word c = search needs
+shared-slice-read-is-fine : tie.Need-shared-slice-read-is-fine Inv-loop μ-loop
+shared-slice-read-is-fine c = search needs
 
-is-cell-requires : tie.Need-is-cell-requires Inv-loop μ-loop
-is-cell-requires c κs = search needs
+is-fine-requires : tie.Need-is-fine-requires Inv-loop μ-loop
+is-fine-requires c κs = search needs
 
 returns : tie.Need-returns Inv-loop μ-loop
 returns c = λ e. no (sym e)
-
-reaches-beyond-requires : tie.Need-reaches-beyond-requires Inv-loop μ-loop
-reaches-beyond-requires c κs = search needs
-
-returns-2 : tie.Need-returns-2 Inv-loop μ-loop
-returns-2 c = λ e. no (sym e)
 
 add-i : tie.Need-add-i Inv-loop μ-loop
 add-i c = search needs
@@ -47,13 +38,10 @@ loop-less : tie.Need-loop-less Inv-loop μ-loop
 loop-less c = search needs
 
 loop-again : tie.Need-loop-again Inv-loop μ-loop
-loop-again c = (
-  search needs,
-  c .before .before .before .before .before .before .loop .inv .1 ∙ cell-passed _ _ _ (c .before .before .before .before .before .loop-test .taken) (sym (c .before .before .before .is-cell .ensures) ∙ not-false _ (c .before .before .if1 .left)) (sym (c .before .reaches-beyond .ensures) ∙ c .if2 .left),
-)
+loop-again c = (search needs, c .before .before .before .before .loop .inv .1 ∙ cell-passed _ _ _ (c .before .before .before .loop-test .taken) (c .before .is-fine .ensures (not-false _ (c .if1 .left))))
 
-returns-3 : tie.Need-returns-3 Inv-loop μ-loop
-returns-3 c = λ e. c .before .loop .inv .1 ∙ cells-end _ _ _ _ (c .loop-test .left)
+returns-2 : tie.Need-returns-2 Inv-loop μ-loop
+returns-2 c = λ e. c .before .loop .inv .1 ∙ cells-end _ _ _ _ (c .loop-test .left)
 
 pub are-cells-spec : {M : Type 1} → statement M
 are-cells-spec =
@@ -62,13 +50,11 @@ are-cells-spec =
     Inv-loop
     μ-loop
     loop-holds
-    mul-word
-    shared-slice-read-word
-    is-cell-requires
+    mul-is-fine
+    shared-slice-read-is-fine
+    is-fine-requires
     returns
-    reaches-beyond-requires
-    returns-2
     add-i
     loop-less
     loop-again
-    returns-3)
+    returns-2)

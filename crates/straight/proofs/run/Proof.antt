@@ -1,12 +1,11 @@
 -- `straight::run` meets its contract. The loop's invariant: the stack holds the cells of the definition's stack of trees. Assumes nothing.
 use mathlib.Core.Path.{_≡_, refl, sym, subst}
 use denote.Ref.{now}
-use Prim.Native.Nat.{ℕ, _+_, _-_, _<_, _≤_}
+use Prim.Native.Nat.{_+_, _-_, _≤_}
 use lib.ListN.{length, set}
-use borrow.Author.Tests.{not-false}
 use Rattle.nodes.specs.Kind.{bodyOf}
-use Rattle.straight.specs.Straight.{LeafRead, MayCome}
-use Rattle.straight.proofs.Running.{Running, run-start, leaf-room, run-leaf, left-fine, right-fine, run-two, run-end}
+use Rattle.straight.specs.Straight.{LeafRead}
+use Rattle.straight.proofs.Running.{Running, run-start, run-leaf, left-fine, right-fine, run-two, run-end}
 use native.Mathlib.Omega.{arith}
 use borrow.Author.Needs.{needs}
 use Rattle.straight.proofs.run.Statement.{statement}
@@ -23,13 +22,9 @@ read : (c : tie.After-body-of Inv-loop μ-loop)
     → LeafRead (length (now (c .before .before .before .before .before .before .before .before .before .before .before .before .args .stored))) (now (c .before .before .before .before .before .before .before .before .before .before .before .before .args .b)) (now (c .before .before .before .before .before .before .before .before .before .before .before .before .args .row)) (c .before .before .before .before .before .before .before .before .loop .at) (c .before .before .before .before .before .wide .result) (c .before .before .leaf .result)
 read c = c .before .before .leaf .ensures (c .before .if3 .left)
 
--- the operator that may come
-may : (c : tie.Else4 Inv-loop μ-loop) → MayCome (c .before .before .before .wide .result) (c .before .before .before .before .before .before .loop .n) (c .before .before .before .before .before .before .loop .done)
-may c = c .before .may-come .ensures (not-false _ (c .if4 .left))
-
 -- its operands stand within the stack
-pair : (c : tie.Else4 Inv-loop μ-loop) → (2 ≤ c .before .before .before .before .before .before .loop .n) × (c .before .before .before .before .before .before .loop .n ≤ 16)
-pair c = (may c .operands, c .before .before .before .before .before .before .loop .inv .few)
+pair : (c : tie.Else4 Inv-loop μ-loop) → (2 ≤ c .before .before .before .before .before .loop .n) × (c .before .before .before .before .before .loop .n ≤ 16)
+pair c = (c .if4 .left, c .before .before .before .before .before .loop .inv .few)
 
 loop-holds : tie.Need-loop-holds Inv-loop μ-loop
 loop-holds c = run-start _ _ _ _ refl
@@ -75,11 +70,11 @@ loop-again c =
     subst (λ x. Running (now (c .before .before .before .before .before .before .before .before .before .before .before .before .args .b)) (now (c .before .before .before .before .before .before .before .before .before .before .before .before .args .row)) (now (c .before .before .before .before .before .before .before .before .before .before .before .before .args .stored)) (set (c .before .before .before .before .before .before .before .before .loop .stack) (c .before .before .before .before .before .before .before .before .loop .n) (c .before .before .leaf .result)) (c .before .before .before .before .before .before .before .before .loop .n + 1) (c .before .before .before .before .before .before .before .before .loop .done) (c .before .before .before .before .before .before .before .before .loop .at + 1 + x)) (sym (c .body-of .ensures))
     (run-leaf _ _ _ _ _ _ _ (c .before .before .before .before .before .before .before .before .loop .inv) (c .before .before .before .before .before .before .before .loop-test .taken) (c .before .before .before .before .before .wide .result) (c .before .before .before .before .before .wide .ensures .0) (λ i. c .before .before .before .before .before .before .before .before .before .before .before .shared-slice-known .given i .fits) (c .before .before .before .before .before .before .before .before .before .before .before .before .pre) (c .before .before .before .before .if1 .taken) (c .before .before .before .if2 .left) _ (read c))
 
-may-come-requires : tie.Need-may-come-requires Inv-loop μ-loop
-may-come-requires c κs = search needs
-
 returns-3 : tie.Need-returns-3 Inv-loop μ-loop
 returns-3 c = λ n. absurd (n refl)
+
+sub-n : tie.Need-sub-n Inv-loop μ-loop
+sub-n c = omega (arith, pair c .0, pair c .1)
 
 sub-two : tie.Need-sub-two Inv-loop μ-loop
 sub-two c = omega (arith, pair c .0, pair c .1)
@@ -90,9 +85,6 @@ mul-two c = omega (arith, pair c .0, pair c .1)
 array-read-two : tie.Need-array-read-two Inv-loop μ-loop
 array-read-two c = omega (arith, pair c .0, pair c .1)
 
-sub-two-2 : tie.Need-sub-two-2 Inv-loop μ-loop
-sub-two-2 c = omega (arith, pair c .0, pair c .1)
-
 mul-two-2 : tie.Need-mul-two-2 Inv-loop μ-loop
 mul-two-2 c = omega (arith, pair c .0, pair c .1)
 
@@ -100,9 +92,7 @@ array-read-two-2 : tie.Need-array-read-two-2 Inv-loop μ-loop
 array-read-two-2 c = omega (arith, pair c .0, pair c .1)
 
 two-requires : tie.Need-two-requires Inv-loop μ-loop
-two-requires c κs =
-    let M = may c in
-    ((M .above, M .below, M .known), left-fine _ _ _ _ _ _ _ (c .before .before .before .before .before .before .loop .inv) (c .before .before .before .before .before .loop-test .taken) _ (c .before .before .before .wide .ensures .0) M, right-fine _ _ _ _ _ _ _ (c .before .before .before .before .before .before .loop .inv) (c .before .before .before .before .before .loop-test .taken) _ (c .before .before .before .wide .ensures .0) M)
+two-requires c κs = (left-fine _ _ _ _ _ _ _ (c .before .before .before .before .before .loop .inv) (c .before .before .before .before .loop-test .taken) _ (c .before .before .wide .ensures .0) (c .if4 .left), right-fine _ _ _ _ _ _ _ (c .before .before .before .before .before .loop .inv) (c .before .before .before .before .loop-test .taken) _ (c .before .before .wide .ensures .0) (c .if4 .left))
 
 returns-4 : tie.Need-returns-4 Inv-loop μ-loop
 returns-4 c = λ n. absurd (n refl)
@@ -116,11 +106,8 @@ mul-stack-2 c = omega (arith, pair (c .before .before) .0, pair (c .before .befo
 array-write-stack-2 : tie.Need-array-write-stack-2 Inv-loop μ-loop
 array-write-stack-2 c = omega (arith, pair (c .before .before) .0, pair (c .before .before) .1)
 
-sub-n : tie.Need-sub-n Inv-loop μ-loop
-sub-n c = omega (arith, pair (c .before .before) .0, pair (c .before .before) .1)
-
 add-done : tie.Need-add-done Inv-loop μ-loop
-add-done c = omega (arith, c .before .before .before .before .before .before .before .before .loop .inv .worked)
+add-done c = omega (arith, c .before .before .before .before .before .before .before .loop .inv .worked, c .before .before .before .before .before .before .loop-test .taken)
 
 add-at-3 : tie.Need-add-at-3 Inv-loop μ-loop
 add-at-3 c = search needs
@@ -129,7 +116,8 @@ loop-less-2 : tie.Need-loop-less-2 Inv-loop μ-loop
 loop-less-2 c = search needs
 
 loop-again-2 : tie.Need-loop-again-2 Inv-loop μ-loop
-loop-again-2 c = run-two _ _ _ _ _ _ _ (c .before .before .before .before .before .before .before .before .loop .inv) (c .before .before .before .before .before .before .before .loop-test .taken) (c .before .before .before .before .before .wide .result) (c .before .before .before .before .before .wide .ensures .0) (may (c .before .before)) (c .before .two .result) (c .if5 .left) (c .before .two .ensures)
+loop-again-2 c =
+    run-two _ _ _ _ _ _ _ (c .before .before .before .before .before .before .before .loop .inv) (c .before .before .before .before .before .before .loop-test .taken) (c .before .before .before .before .wide .result) (c .before .before .before .before .wide .ensures .0) (c .before .before .if4 .left) (c .before .two .ensures .0 (c .if5 .left)) (c .before .two .result) (c .if5 .left) (c .before .two .ensures .1)
 
 array-read-whole : tie.Need-array-read-whole Inv-loop μ-loop
 array-read-whole c = omega arith
@@ -160,12 +148,11 @@ run-spec =
     add-at-2
     loop-less
     loop-again
-    may-come-requires
     returns-3
+    sub-n
     sub-two
     mul-two
     array-read-two
-    sub-two-2
     mul-two-2
     array-read-two-2
     two-requires
@@ -173,7 +160,6 @@ run-spec =
     sub-stack
     mul-stack-2
     array-write-stack-2
-    sub-n
     add-done
     add-at-3
     loop-less-2

@@ -1,45 +1,28 @@
 -- `wordwise::two` meets its contract. Assumes nothing.
-use mathlib.Core.Path.{_≡_}
 use denote.Ref.{now}
-use Rattle.wordwise.proofs.Settling.{unsettled, settled-as, both-compared, both-ints}
-use native.Mathlib.Omega.{arith}
 use borrow.Author.Needs.{needs}
 use Rattle.wordwise.proofs.two.Statement.{statement}
 use Rattle.wordwise.proofs.two.Tie as tie
 
-compare-requires : tie.Need-compare-requires
-compare-requires c κs = search needs
+on-cells-requires : tie.Need-on-cells-requires
+on-cells-requires c κs = search needs
 
 returns : tie.Need-returns
-returns c = λ R. settled-as _ _ _ (both-compared R _ _ _ (c .before .if1 .taken)) (c .compare .ensures)
+returns c = search needs
 
-decide-requires : tie.Need-decide-requires
-decide-requires c κs = search needs
+on-cells-requires-2 : tie.Need-on-cells-requires-2
+on-cells-requires-2 c κs = search needs
 
 returns-2 : tie.Need-returns-2
-returns-2 c = λ R. c .decide .ensures R (now (c .before .before .before .before .args .stored)) (c .before .before .before .before .pre .1) (c .before .before .before .before .pre .2)
+returns-2 c = search needs
+
+on-ints-requires : tie.Need-on-ints-requires
+on-ints-requires c κs = record { first = c .before .if1 .left; second = c .if2 .left }
 
 returns-3 : tie.Need-returns-3
-returns-3 c = λ R. unsettled _
-
-returns-4 : tie.Need-returns-4
-returns-4 c = λ R. unsettled _
-
-compute-requires : tie.Need-compute-requires
-compute-requires c κs = search needs
-
-returns-5 : tie.Need-returns-5
-returns-5 c = λ R. settled-as _ _ _ (both-ints R _ _ _ _ (c .before .before .before .before .if1 .left) (omega (arith, c .before .before .before .if2 .left, c .before .before .before .before .before .before .pre .0 .2)) (c .before .before .if3 .left) (c .before .if4 .left)) (c .compute .ensures)
+returns-3 c = (c .on-ints .ensures .0, λ R. c .on-ints .ensures .1 .settled R (now (c .before .before .before .before .args .stored)) (c .before .before .before .before .pre .0) (c .before .before .before .before .pre .1))
 
 pub two-spec : {M : Type 1} → statement M
 two-spec =
     tie.close
-    (tie.spec
-    compare-requires
-    returns
-    decide-requires
-    returns-2
-    returns-3
-    returns-4
-    compute-requires
-    returns-5)
+    (tie.spec on-cells-requires returns on-cells-requires-2 returns-2 on-ints-requires returns-3)
