@@ -22,8 +22,8 @@ use Rattle.postfix.proofs.Leaves.{length-body}
 use Rattle.postfix.proofs.Numbers.{one-drop}
 use Rattle.postfix.proofs.Readable.{LeafReadable, Readable, word-by, leaf-readable}
 use Rattle.postfix.proofs.Reading.{one-bytes, two-bytes, past, before}
-use Rattle.evaluation.specs.Evaluation.{isMissing, numbersStop}
-use Rattle.evaluation.proofs.Numbers.{numbers-end}
+use Rattle.forms.specs.Number.{isMissing, numbersStop}
+use Rattle.forms.proofs.Numbers.{numbers-end}
 use Rattle.evaluation.proofs.Narrowing.{Narrow}
 use Rattle.binding.specs.Bind.{columnOf, numbered, bindLeaf, isNowhere, namesStop}
 use Rattle.binding.proofs.Leaves.{first-below, names-length}

@@ -15,7 +15,7 @@ use Rattle.nodes.specs.Kind.{known, allows, isKind, bodyOf, leafWord, textFits,
 use Rattle.nodes.specs.declared.Allowed.the-variants.{Bound}
 use Rattle.nodes.proofs.Bodies.{known-leaf}
 use Rattle.forms.specs.Form.{Parsed, tree, refusal, Move, go, stop as halt, pushed, onOne, onTwo, nodeAt, finish, follow, parse, parsed}
-use Rattle.evaluation.specs.Evaluation.{isMissing, numbersStop}
+use Rattle.forms.specs.Number.{isMissing, numbersStop}
 
 -- every column is below the width, and none stands by its name
 unfoldable pub Narrow : ℕ → Tree ℕ → Type 0

@@ -15,7 +15,8 @@ use Rattle.forms.specs.Form.{Parsed, tree, refusal, parsed, formStop}
 use Rattle.forms.specs.Held.{ScanIs}
 use Rattle.forms.specs.declared.Scanned.{Scanned}
 use Rattle.forms.specs.declared.Scanned.the-variants.{Table, Denied}
-use Rattle.evaluation.specs.Evaluation.{isRowLength, numbersStop, stops, PreparedIs}
+use Rattle.forms.specs.Number.{numbersStop}
+use Rattle.evaluation.specs.Evaluation.{isRowLength, stops, PreparedIs}
 
 pub row-short : (n : ℕ) → n < 1 → isRowLength n ≡ false
 unfolding isRowLength

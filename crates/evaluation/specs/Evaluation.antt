@@ -1,12 +1,12 @@
 -- The call `evaluate`: its refusals in document 01's order, and what it comes to. Assumes nothing: these are definitions.
-use Prim.Native.Nat.{ℕ, zero, suc, _+_, _≤_, _<_}
+use Prim.Native.Nat.{ℕ, _≤_, _<_}
 use mathlib.Core.Path.{_≡_}
-use mathlib.Core.Bool.{Bool, true, false, not, cond}
+use mathlib.Core.Bool.{Bool, not}
 use mathlib.Core.List.{List, [], _∷_}
 use lib.ListN.{length, take, getD}
-use lib.Dec.{ltb, leb, eqb}
+use lib.Dec.{leb}
 use Rattle.refusals.specs.Told.{told}
-use Rattle.refusals.specs.Stop.{Stop, never, stop, stopIf, orElse, firstOf, stopOf}
+use Rattle.refusals.specs.Stop.{Stop, never, stop, stopIf, firstOf, stopOf}
 use Rattle.slices.specs.Bytes.{both}
 use Rattle.cells.specs.Cell.{WellFormed, kindOf, startOf}
 use Rattle.values.specs.Value.{Value, valueOf}
@@ -15,9 +15,10 @@ use Rattle.integers.specs.Outcome.{Outcome, value}
 use Rattle.operators.specs.declared.Rules.{Rules}
 use Rattle.conditions.specs.Ast.{Tree, mapTree, eval, size}
 use Rattle.conditions.specs.Table.{leafOf, rowOf, leafCell}
-use Rattle.nodes.specs.Kind.{bodyOf, leafWord}
+use Rattle.nodes.specs.Kind.{leafWord}
 use Rattle.nodes.specs.declared.Allowed.the-variants.{Bound}
 use Rattle.forms.specs.Form.{Parsed, tree, refusal, parsed, formStop}
+use Rattle.forms.specs.Number.{numbersStop}
 use Rattle.forms.specs.Held.{ScanIs}
 use Rattle.forms.specs.declared.Scanned.{Scanned}
 use Rattle.forms.specs.declared.Scanned.the-variants.{Table, Denied}
@@ -27,16 +28,6 @@ use Rattle.evaluation.specs.declared.Evaluated.the-variants.{Cell, Refus
 -- one row has 1 to 32 cells
 unfoldable pub isRowLength : ℕ → Bool
 isRowLength n = both (leb 1 n) (leb n 32)
-
--- a column node whose number is no column's
-abbrev pub isMissing : ℕ → List ℕ → ℕ → Bool
-isMissing width b at = both (eqb (getD b at 0) 4) (leb width (getD b (at + 1) 0))
-
--- 4 over the columns, in byte order, from an offset on, where so many nodes are left at most
-unfoldable pub numbersStop : ℕ → List ℕ → ℕ → ℕ → Stop
-numbersStop width b zero at = never
-numbersStop width b (suc f) at =
-    cond (ltb at (length b)) (orElse (stopIf (isMissing width b at) 4 at) (numbersStop width b f (at + 1 + bodyOf (getD b at 0)))) never
 
 -- all that is looked at before evaluation, in document 01's order; size is the text buffer's
 abbrev pub stops : List ℕ → List ℕ → ℕ → ℕ → Stop

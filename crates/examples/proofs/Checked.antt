@@ -24,7 +24,8 @@ use Rattle.conditions.specs.Ast.{mapTree, decides, twoSided, eval, height}
 use Rattle.conditions.specs.Table.{leafOf, rowOf}
 use Rattle.nodes.specs.Kind.{isKind, known, bodyOf, leafWord, textFits}
 use Rattle.forms.specs.Form.{nodeAt, parse}
-use Rattle.evaluation.specs.Evaluation.{isRowLength, numbersStop, evaluation}
+use Rattle.forms.specs.Number.{numbersStop}
+use Rattle.evaluation.specs.Evaluation.{isRowLength, evaluation}
 use Rattle.postfix.specs.Postfix.{little, bodyBytes, bytesOf}
 use Rattle.folding.specs.Fold.{fold}
 use Rattle.folding.specs.Call.{folding}

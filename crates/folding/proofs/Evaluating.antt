@@ -18,7 +18,8 @@ use Rattle.conditions.specs.Table.{leafOf, rowOf}
 use Rattle.conditions.proofs.Giving.{well-more}
 use Rattle.nodes.specs.declared.Allowed.the-variants.{Bound, Mixed}
 use Rattle.forms.specs.Form.{parsed, formStop}
-use Rattle.evaluation.specs.Evaluation.{isRowLength, numbersStop, stops, Result, gave, atZero, ofTree, unlessStopped, evaluation}
+use Rattle.forms.specs.Number.{numbersStop}
+use Rattle.evaluation.specs.Evaluation.{isRowLength, stops, Result, gave, atZero, ofTree, unlessStopped, evaluation}
 use Rattle.postfix.specs.Postfix.{bytesOf}
 use Rattle.postfix.proofs.Reading.{Readable}
 use Rattle.folding.specs.Walk.{AllHeld}

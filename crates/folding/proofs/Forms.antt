@@ -18,8 +18,8 @@ use Rattle.nodes.specs.declared.Allowed.the-variants.{Bound, Mixed}
 use Rattle.nodes.proofs.Bodies.{known-kind}
 use Rattle.forms.specs.Form.{tree, nodeAt, parse, parsed, formStop}
 use Rattle.forms.specs.Held.{LeafHeld}
-use Rattle.evaluation.specs.Evaluation.{numbersStop}
-use Rattle.evaluation.proofs.Numbers.{numbers-end}
+use Rattle.forms.specs.Number.{numbersStop}
+use Rattle.forms.proofs.Numbers.{numbers-end}
 use Rattle.postfix.specs.Postfix.{leafBytes, bodyBytes, bytesOf, width}
 use Rattle.postfix.proofs.Leaves.{length-body, bytes-column}
 use Rattle.postfix.proofs.Numbers.{one-drop, one-little}

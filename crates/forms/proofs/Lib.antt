@@ -4,3 +4,4 @@ pub mod Words
 pub mod Steps
 pub mod Scanning
 pub mod Unique
+pub mod Numbers

@@ -11,7 +11,7 @@ use Rattle.forms.specs.Form.{parsed, formStop}
 use Rattle.forms.specs.Held.{ScanIs}
 use Rattle.forms.specs.declared.Scanned.{Scanned}
 use Rattle.forms.specs.declared.Scanned.the-variants.{Table, Denied}
-use Rattle.evaluation.specs.Evaluation.{numbersStop}
+use Rattle.forms.specs.Number.{numbersStop}
 use Rattle.testing.specs.Test.{conditionStop, PreparedIs}
 
 module _ (used width : ℕ) (nodes : List ℕ) where

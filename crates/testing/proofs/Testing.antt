@@ -22,7 +22,8 @@ use Rattle.conditions.specs.Table.{leafOf, rowOf, treeOf, Asks, Answers}
 use Rattle.nodes.specs.declared.Allowed.the-variants.{Bound}
 use Rattle.forms.specs.Form.{parsed, formStop}
 use Rattle.forms.specs.declared.Scanned.the-variants.{Table}
-use Rattle.evaluation.specs.Evaluation.{stops, numbersStop, PreparedIs}
+use Rattle.forms.specs.Number.{numbersStop}
+use Rattle.evaluation.specs.Evaluation.{stops, PreparedIs}
 use Rattle.evaluation.proofs.Stopping.{at-none}
 use Rattle.evaluation.proofs.Whole.{asks, denotes-tree}
 use Rattle.quick.specs.Quick.{Stands, Found}

@@ -18,7 +18,8 @@ use Rattle.forms.specs.Form.{Parsed, tree, refusal, parsed, formStop}
 use Rattle.forms.specs.Held.{ScanIs}
 use Rattle.forms.specs.declared.Scanned.{Scanned}
 use Rattle.forms.specs.declared.Scanned.the-variants.{Table, Denied}
-use Rattle.evaluation.specs.Evaluation.{isRowLength, numbersStop}
+use Rattle.forms.specs.Number.{numbersStop}
+use Rattle.evaluation.specs.Evaluation.{isRowLength}
 use Rattle.testing.specs.declared.Verdict.{Verdict}
 use Rattle.testing.specs.declared.Verdict.the-variants.{Yes, No, Refused}
 

@@ -1,6 +1,6 @@
 -- `evaluation::is_missing` meets its contract. Assumes nothing.
 use denote.Ref.{now}
-use Rattle.evaluation.proofs.Numbers.{other-kind, number-cut, number-read}
+use Rattle.forms.proofs.Numbers.{other-kind, number-cut, number-read}
 use borrow.Author.Needs.{needs}
 use Rattle.evaluation.proofs.is_missing.Statement.{statement}
 use Rattle.evaluation.proofs.is_missing.Tie as tie

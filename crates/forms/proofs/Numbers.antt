@@ -9,7 +9,7 @@ use lib.Dec.{eqb, leb}
 use borrow.Author.Tests.{lt-ltb, le-ltb, eq-eqb, ne-eqb}
 use Rattle.refusals.specs.Stop.{Stop, never, stop}
 use Rattle.nodes.specs.Kind.{bodyOf}
-use Rattle.evaluation.specs.Evaluation.{isMissing, numbersStop}
+use Rattle.forms.specs.Number.{isMissing, numbersStop}
 
 pub body-short : (k : ℕ) → bodyOf k ≤ 6
 unfolding bodyOf

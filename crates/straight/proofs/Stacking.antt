@@ -1,0 +1,108 @@
+-- A stack of trees with their cells, and the laws of pushing a leaf and of joining two trees by an operator. Assumes nothing.
+use mathlib.Core.Path.{_≡_, refl, sym, ap, subst, _∙_}
+use mathlib.Core.Bool.{Bool, true, false, cond}
+use mathlib.Core.List.{List, [], _∷_}
+use Prim.Native.Nat.{ℕ, zero, suc, _+_, _-_, _*_, _^_, _≤_, _<_, max}
+use native.Mathlib.Omega.{arith}
+use native.Mathlib.Nat.{add-sub-cancel}
+use lib.ListN.{length, getD, set}
+use lib.IntN.{ℤ}
+use lib.Seq.{getD-set-same, getD-set-other}
+use Rattle.cells.specs.Cell.{WellFormed, Inside, refOf, wordOf}
+use Rattle.cells.specs.declared.ValueRef.{ValueRef}
+use Rattle.cells.specs.declared.ValueRef.the-variants.{Null, Int, Str, Binary}
+use Rattle.cells.proofs.Words.{Sized, ref-back}
+use Rattle.cells.proofs.Stops.{well-word}
+use Rattle.values.specs.Value.{Value, null, int, str, binary, toValue, valueOf, toBool, fromBool}
+use Rattle.integers.specs.Outcome.{Outcome, value, Reply, gave, placed}
+use Rattle.operators.specs.declared.Rules.{Rules}
+use Rattle.operators.proofs.Holding.{Holds, holds-truth, value-int32}
+use Rattle.conditions.specs.Ast.{Tree, leaf, unary, binary, mapTree, eval, decides, twoSided, height, size}
+use Rattle.conditions.specs.Table.{leafOf, rowOf, LeafIs}
+use Rattle.conditions.proofs.Deciding.{holds-two-sided}
+use Rattle.wordwise.specs.Settled.{nothing, Settled, onBoth}
+
+-- a tree at most so deep, and the cell that it comes to
+pub record Valued (stored row : List ℕ) (deep : ℕ) (t : Tree ℕ) (w : ℕ) : Type 0 where
+  pub low : height t ≤ deep
+  pub means : (R : Rules) → eval R (rowOf stored row) (mapTree (leafOf stored) t) ≡ value (valueOf stored w)
+  pub fine : WellFormed (length stored) w
+
+-- the first n words are the cells of a stack of trees, the top one last
+unfoldable pub Stacked : (stored row stack : List ℕ) (deep n : ℕ) → List (Tree ℕ) → Type 0
+Stacked stored row stack deep n [] = n ≡ 0
+Stacked stored row stack deep n (t ∷ s) = (0 < n) × Valued stored row deep t (getD stack (n - 1) 0) × Stacked stored row stack deep (n - 1) s
+
+-- ---- what an operator gives, a word that adds no text
+
+reply-word : Reply → ℕ
+reply-word (gave w top) = w
+reply-word (Reply.refused n) = 0
+
+module _ (stored : List ℕ) (r : ℕ) where
+  -- a cell that is no text
+  cell-is : (x : ValueRef) (v : Value) → Sized x → Inside (length stored) x → toValue stored x ≡ v → r ≡ wordOf x → (value v ≡ value (valueOf stored r)) × WellFormed (length stored) r
+  cell-is x v s i m e = (ap value (sym (ap (λ w. valueOf stored w) e ∙ ap (toValue stored) (ref-back x s) ∙ m)), rw e (well-word (length stored) x s i))
+
+  pub settled-is : (limit : ℕ) (o : Outcome) → Holds limit o → ((top : ℕ) → gave r top ≡ placed top o) → (o ≡ value (valueOf stored r)) × WellFormed (length stored) r
+  unfolding placed reply-word toValue Sized Inside wordOf
+  settled-is limit (value null) h f = cell-is Null null tt tt refl (ap reply-word (f 0))
+  settled-is limit (value (int z)) h f = cell-is (Int z) (int z) (h .held) tt refl (ap reply-word (f 0))
+  settled-is limit (value (str b)) h f =
+      let p : r ≡ 2 * 2 ^ 56 + (0 * 65536 + length b) = ap reply-word (f 0) in
+      let q : r ≡ 2 * 2 ^ 56 + (1 * 65536 + length b) = ap reply-word (f 1) in
+      absurd (let z : ⊥ = omega arith in z)
+  settled-is limit (value binary) h f = cell-is Binary binary tt tt refl (ap reply-word (f 0))
+  settled-is limit (Outcome.refused n) h f = absurd (let e = f 0 in let z : _≡_ {A = ℕ} 0 1 = cc in omega arith)
+
+holds-both : (R : Rules) (op : ℕ) (t : List ℕ) (a b : ℕ) → Holds (R .limit) (onBoth R op (valueOf t a) (valueOf t b))
+unfolding onBoth
+holds-both R op t a b = go (decides op (valueOf t a))
+  where
+    go : (x : Bool) → Holds (R .limit) (cond x (value (fromBool (toBool (valueOf t a)))) (twoSided R op (valueOf t a) (valueOf t b)))
+    go true = holds-truth (R .limit) (toBool (valueOf t a))
+    go false = holds-two-sided R op (valueOf t a) (valueOf t b) (value-int32 t a) (value-int32 t b)
+
+-- ---- trees and their cells
+
+module _ (stored row : List ℕ) (deep : ℕ) where
+  pub valued-leaf : (w r : ℕ) → 1 ≤ deep → LeafIs (length stored) w row r → Valued stored row deep (leaf w) r
+  unfolding height mapTree
+  valued-leaf w r h l = record { low = h; means = λ R. l .means R stored; fine = l .within }
+
+  pub valued-two : (op : ℕ) (t u : Tree ℕ) (a b r : ℕ) → Valued stored row deep t a → Valued stored row deep u b → (r ≡ nothing → ⊥)
+      → ((R : Rules) → Settled r (onBoth R op (valueOf stored a) (valueOf stored b))) → Valued stored row (deep + 1) (binary op t u) r
+  unfolding height mapTree eval onBoth
+  valued-two op t u a b r A B n s =
+      let is : (R : Rules) → (onBoth R op (valueOf stored a) (valueOf stored b) ≡ value (valueOf stored r)) × WellFormed (length stored) r =
+      λ R. settled-is stored r (R .limit) (onBoth R op (valueOf stored a) (valueOf stored b)) (holds-both R op stored a b) (s R .told n) in
+      record {
+        low = omega (arith, A .low, B .low);
+        means = λ R. rw (A .means R, B .means R) (is R .0);
+        fine = is (record { limit = 0 }) .1;
+      }
+
+  valued-more : (t : Tree ℕ) (w : ℕ) → Valued stored row deep t w → Valued stored row (deep + 1) t w
+  valued-more t w v = record { low = omega (arith, v .low); means = v .means; fine = v .fine }
+
+  pub stacked-more : (stack : List ℕ) (n : ℕ) (s : List (Tree ℕ)) → Stacked stored row stack deep n s → Stacked stored row stack (deep + 1) n s
+  unfolding Stacked
+  stacked-more stack n [] d = d
+  stacked-more stack n (t ∷ s) d = (d .0, valued-more t (getD stack (n - 1) 0) (d .1), stacked-more stack (n - 1) s (d .2))
+
+  -- a store at or above the top changes nothing
+  stacked-set : (stack : List ℕ) (i w n : ℕ) (s : List (Tree ℕ)) → n ≤ i → Stacked stored row stack deep n s → Stacked stored row (set stack i w) deep n s
+  unfolding Stacked
+  stacked-set stack i w n [] h d = d
+  stacked-set stack i w n (t ∷ s) h d = (
+    d .0,
+    subst (Valued stored row deep t) (sym (getD-set-other stack i (n - 1) w 0 (omega (arith, d .0)))) (d .1),
+    stacked-set stack i w (n - 1) s (omega arith) (d .2),
+  )
+
+  pub push : (stack : List ℕ) (n w : ℕ) (t : Tree ℕ) (s : List (Tree ℕ)) → n < length stack → Valued stored row deep t w → Stacked stored row stack deep n s
+      → Stacked stored row (set stack n w) deep (n + 1) (t ∷ s)
+  unfolding Stacked
+  push stack n w t s h v d =
+      let e : n + 1 - 1 ≡ n = omega arith in
+      (omega arith, rw (e, getD-set-same stack n w 0 h) v, rw e (stacked-set stack n w n s (omega arith) d))
