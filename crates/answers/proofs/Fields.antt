@@ -9,7 +9,7 @@ use Rattle.writing.specs.Writing as writing
 use Rattle.writing.specs.Writing.{WrittenIs}
 use Rattle.writing.specs.declared.Written.{Written}
 use Rattle.writing.specs.declared.Written.the-variants as written
-use Rattle.folding.specs.Fold.{Folding}
+use Rattle.replacing.specs.Fold.{Folding}
 use Rattle.folding.specs.Call as folding
 use Rattle.folding.specs.Call.{FoldIs}
 use Rattle.folding.specs.declared.Shortened.{Shortened}

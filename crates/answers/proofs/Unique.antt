@@ -16,7 +16,7 @@ use Rattle.evaluation.specs.Evaluation.{EvaluatedIs}
 use Rattle.evaluation.specs.declared.Evaluated.{Evaluated}
 use Rattle.evaluation.specs.declared.Evaluated.the-variants.{Cell, Refused}
 use Rattle.evaluation.proofs.Unique.{Alike, Same, one-evaluation}
-use Rattle.folding.specs.Fold.{Folding}
+use Rattle.replacing.specs.Fold.{Folding}
 use Rattle.folding.specs.Call.{FoldIs, storedAfter}
 use Rattle.folding.specs.declared.Shortened.{Shortened}
 use Rattle.folding.proofs.Unique.{one-fold}

@@ -26,7 +26,7 @@ use Rattle.nodes.specs.Kind.{isKind, known, bodyOf, leafWord, textFits}
 use Rattle.forms.specs.Form.{nodeAt, parse}
 use Rattle.evaluation.specs.Evaluation.{isRowLength, numbersStop, evaluation}
 use Rattle.postfix.specs.Postfix.{little, bodyBytes, bytesOf}
-use Rattle.folding.specs.Fold.{fold}
+use Rattle.replacing.specs.Fold.{fold}
 use Rattle.folding.specs.Call.{folding}
 use Rattle.rules.specs.Rule.{isRule}
 use Rattle.columns.specs.Column.{isText, nameStop, columnStop, columnsStop}

@@ -15,7 +15,7 @@ use Rattle.operators.specs.Operator.{unaryOf, binaryOf}
 use Rattle.operators.specs.declared.Rules.{Rules}
 use Rattle.conditions.specs.Ast.{Tree, leaf, unary, binary}
 use Rattle.postfix.specs.Postfix.{width}
-use Rattle.folding.specs.Fold.{Folding, folded, andFold, isLiteral, leafWordOf, appended, replaced, foldOne, foldTwo, fold}
+use Rattle.replacing.specs.Fold.{Folding, folded, andFold, isLiteral, leafWordOf, appended, replaced, foldOne, foldTwo, fold}
 
 -- the leaf that a value becomes, where the stored text was this
 abbrev pub literalAt : List ℕ → Value → Tree ℕ

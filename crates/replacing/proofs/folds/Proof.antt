@@ -1,4 +1,4 @@
--- `folding::folds` meets its contract. Assumes nothing.
+-- `replacing::folds` meets its contract. Assumes nothing.
 use native.Mathlib.Omega.{arith}
 use Prim.Native.Nat.{_^_, _/_}
 use borrow.Author.Tests.{lt-ltb, le-ltb}
@@ -6,9 +6,9 @@ use mathlib.Core.Path.{_≡_, refl, sym}
 use mathlib.Core.Bool.{Bool, true, false}
 use lib.Dec.{ltb}
 use Rattle.slices.specs.Bytes.{both}
-use Rattle.folding.proofs.Standing.{below-three}
-use Rattle.folding.proofs.folds.Statement.{statement}
-use Rattle.folding.proofs.folds.Tie as tie
+use Rattle.replacing.proofs.Standing.{below-three}
+use Rattle.replacing.proofs.folds.Statement.{statement}
+use Rattle.replacing.proofs.folds.Tie as tie
 
 -- where the second test fails
 both-false : (x : Bool) → both x false ≡ false

@@ -14,9 +14,9 @@ use Rattle.operators.specs.declared.Rules.{Rules}
 use Rattle.conditions.specs.Ast.{Tree, leaf, unary, binary, size, height, joins}
 use Rattle.forms.specs.Held.{LeafHeld, Denotes}
 use Rattle.postfix.specs.Postfix.{bytesOf, width}
-use Rattle.folding.specs.Fold.{Folding, folded, appended}
-use Rattle.folding.specs.declared.Part.{Part}
-use Rattle.folding.specs.declared.Part.the-variants.{Folded, Refused}
+use Rattle.replacing.specs.Fold.{Folding, folded, appended}
+use Rattle.replacing.specs.declared.Part.{Part}
+use Rattle.replacing.specs.declared.Part.the-variants.{Folded, Refused}
 
 -- every leaf of the tree is held below the mark
 unfoldable pub AllHeld : ℕ → Tree ℕ → Type 0

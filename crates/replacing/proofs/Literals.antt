@@ -20,9 +20,9 @@ use Rattle.operators.proofs.Holding.{Holds, value-int32, holds-unary, holds-bin
 use Rattle.conditions.specs.Ast.{literal}
 use Rattle.conditions.specs.Table.{leafOf}
 use Rattle.forms.specs.Held.{LeafHeld}
-use Rattle.folding.specs.Walk.{Literal}
-use Rattle.folding.specs.Fold.{appended}
-use Rattle.folding.proofs.Results.{Result, result-unary, result-binary}
+use Rattle.replacing.specs.Walk.{Literal}
+use Rattle.replacing.specs.Fold.{appended}
+use Rattle.replacing.proofs.Results.{Result, result-unary, result-binary}
 
 -- ---- what operators give is such a value
 

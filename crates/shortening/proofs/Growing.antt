@@ -14,10 +14,10 @@ use Rattle.operators.specs.declared.Rules.{Rules}
 use Rattle.conditions.specs.Ast.{Tree, leaf, unary, binary, size, height, joins}
 use Rattle.conditions.proofs.Giving.{well-more}
 use Rattle.forms.specs.Held.{LeafHeld}
-use Rattle.folding.specs.Walk.{AllHeld, Literal}
-use Rattle.folding.specs.Fold.{folded, appended, fold}
-use Rattle.folding.proofs.Ways.{literalAt, Folds, same, kept-one, kept-two, value-one, value-two, fold-folds}
-use Rattle.folding.proofs.Literals.{literal-one, literal-two, literal-kind, literal-well, literal-grows, held-literal}
+use Rattle.replacing.specs.Walk.{AllHeld, Literal}
+use Rattle.replacing.specs.Fold.{folded, appended, fold}
+use Rattle.shortening.proofs.Ways.{literalAt, Folds, same, kept-one, kept-two, value-one, value-two, fold-folds}
+use Rattle.replacing.proofs.Literals.{literal-one, literal-two, literal-kind, literal-well, literal-grows, held-literal}
 
 -- the text with something after it
 pub record Extends (s s′ : List ℕ) : Type 0 where

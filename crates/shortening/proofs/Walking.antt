@@ -19,12 +19,12 @@ use Rattle.conditions.proofs.Giving.{kept-trans}
 use Rattle.forms.specs.Held.{LeafHeld, Denotes}
 use Rattle.postfix.specs.Postfix.{leafBytes, bytesOf, width}
 use Rattle.postfix.proofs.Reading.{width-size, leaf-width}
-use Rattle.folding.specs.Fold.{Folding, folded, andFold, fold, foldOne, foldTwo}
-use Rattle.folding.specs.Walk.{AllHeld, root, Rooted, Stored, Stands, StandTwo, Says, TwoAsks, FoldAsks, Gives}
-use Rattle.folding.specs.declared.Part.{Part}
-use Rattle.folding.specs.declared.Part.the-variants.{Folded, Refused}
-use Rattle.folding.proofs.Growing.{Grown, grown, longer, held-higher}
-use Rattle.folding.proofs.Standing.{root-well}
+use Rattle.replacing.specs.Fold.{Folding, folded, andFold, fold, foldOne, foldTwo}
+use Rattle.replacing.specs.Walk.{AllHeld, root, Rooted, Stored, Stands, StandTwo, Says, TwoAsks, FoldAsks, Gives}
+use Rattle.replacing.specs.declared.Part.{Part}
+use Rattle.replacing.specs.declared.Part.the-variants.{Folded, Refused}
+use Rattle.shortening.proofs.Growing.{Grown, grown, longer, held-higher}
+use Rattle.replacing.proofs.Standing.{root-well}
 
 -- ---- the tree by its last node
 

@@ -1,12 +1,12 @@
--- `folding::replace` meets its contract. Assumes nothing.
+-- `replacing::replace` meets its contract. Assumes nothing.
 use mathlib.Core.Path.{sym, ap, _∙_}
 use native.Mathlib.Omega.{arith}
 use Rattle.integers.specs.Outcome.{replyOf}
 use Rattle.postfix.proofs.Reading.{leaf-width}
-use Rattle.folding.proofs.Standing.{replaced-value, replaced-refused}
+use Rattle.replacing.proofs.Standing.{replaced-value, replaced-refused}
 use borrow.Author.Needs.{needs}
-use Rattle.folding.proofs.replace.Statement.{statement}
-use Rattle.folding.proofs.replace.Tie as tie
+use Rattle.replacing.proofs.replace.Statement.{statement}
+use Rattle.replacing.proofs.replace.Tie as tie
 
 enum-known-answer : tie.Need-enum-known-answer
 enum-known-answer c = search needs

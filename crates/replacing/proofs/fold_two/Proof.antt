@@ -1,10 +1,10 @@
--- `folding::fold_two` meets its contract. Assumes nothing.
+-- `replacing::fold_two` meets its contract. Assumes nothing.
 use native.Mathlib.Omega.{arith}
 use mathlib.Core.Path.{_≡_, sym, _∙_}
-use Rattle.folding.proofs.Standing.{two-literal, two-kept, test-true}
+use Rattle.replacing.proofs.Standing.{two-literal, two-kept, test-true}
 use borrow.Author.Needs.{needs}
-use Rattle.folding.proofs.fold_two.Statement.{statement}
-use Rattle.folding.proofs.fold_two.Tie as tie
+use Rattle.replacing.proofs.fold_two.Statement.{statement}
+use Rattle.replacing.proofs.fold_two.Tie as tie
 
 folds-requires : tie.Need-folds-requires
 folds-requires c κs = search needs

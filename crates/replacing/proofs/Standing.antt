@@ -22,11 +22,11 @@ use Rattle.operators.specs.declared.Rules.{Rules}
 use Rattle.conditions.specs.Ast.{Tree, leaf, unary, binary, size}
 use Rattle.forms.specs.Held.{LeafHeld}
 use Rattle.postfix.specs.Postfix.{leafBytes, bytesOf, width}
-use Rattle.folding.specs.Fold.{Folding, folded, isLiteral, leafWordOf, appended, replaced, foldOne, foldTwo}
-use Rattle.folding.specs.Walk.{AllHeld, root, Rooted, Literal, Stored, Stands, StandTwo, Says, Becomes, Gives}
-use Rattle.folding.specs.declared.Part.{Part}
-use Rattle.folding.specs.declared.Part.the-variants.{Folded, Refused}
-use Rattle.folding.proofs.Literals.{literal-one, literal-two, literal-grows, literal-kind, literal-well, held-literal}
+use Rattle.replacing.specs.Fold.{Folding, folded, isLiteral, leafWordOf, appended, replaced, foldOne, foldTwo}
+use Rattle.replacing.specs.Walk.{AllHeld, root, Rooted, Literal, Stored, Stands, StandTwo, Says, Becomes, Gives}
+use Rattle.replacing.specs.declared.Part.{Part}
+use Rattle.replacing.specs.declared.Part.the-variants.{Folded, Refused}
+use Rattle.replacing.proofs.Literals.{literal-one, literal-two, literal-grows, literal-kind, literal-well, held-literal}
 
 -- ---- words of trees
 

@@ -1,9 +1,9 @@
--- `folding::fold_one` meets its contract. Assumes nothing.
+-- `replacing::fold_one` meets its contract. Assumes nothing.
 use native.Mathlib.Omega.{arith}
-use Rattle.folding.proofs.Standing.{one-literal, one-kept}
+use Rattle.replacing.proofs.Standing.{one-literal, one-kept}
 use borrow.Author.Needs.{needs}
-use Rattle.folding.proofs.fold_one.Statement.{statement}
-use Rattle.folding.proofs.fold_one.Tie as tie
+use Rattle.replacing.proofs.fold_one.Statement.{statement}
+use Rattle.replacing.proofs.fold_one.Tie as tie
 
 unary-requires : tie.Need-unary-requires
 unary-requires c κs = c .before .before .pre .0

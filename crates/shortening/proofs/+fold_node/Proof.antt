@@ -1,8 +1,8 @@
--- `folding::+fold_node` meets its contract. Assumes nothing.
+-- `shortening::+fold_node` meets its contract. Assumes nothing.
 use borrow.Author.Needs.{needs, scaled-fits}
 use native.Mathlib.Omega.{arith}
 use mathlib.Core.Path.{sym, _∙_}
-use Rattle.folding.proofs.Walking.{
+use Rattle.shortening.proofs.Walking.{
   in-table,
   leaf-space,
   leaf-early,
@@ -25,15 +25,15 @@ use Rattle.folding.proofs.Walking.{
 use Prim.Native.Nat.{ℕ, _<_}
 use borrow.Fn.Kinds.{In}
 use borrow.Fn.PlainCycle.{Measures, is, falls, and}
-use Rattle.folding.proofs.fold_node.Reads as fold-node
-use Rattle.folding.proofs.fold_node.Kinds as fold-node-kinds
-use Rattle.folding.proofs.+fold_node.Lts-fold_node as fold-node-lts
+use Rattle.shortening.proofs.fold_node.Reads as fold-node
+use Rattle.shortening.proofs.fold_node.Kinds as fold-node-kinds
+use Rattle.shortening.proofs.+fold_node.Lts-fold_node as fold-node-lts
 use Rattle.conditions.proofs.node_of.Reads as node-of-reads
-use Rattle.folding.proofs.fold_one.Reads as fold-one-reads
-use Rattle.folding.proofs.fold_two.Reads as fold-two-reads
+use Rattle.replacing.proofs.fold_one.Reads as fold-one-reads
+use Rattle.replacing.proofs.fold_two.Reads as fold-two-reads
 use Rattle.postfix.proofs.write_leaf.Reads as write-leaf-reads
-use Rattle.folding.proofs.+fold_node.{statement}
-use Rattle.folding.proofs.+fold_node.Tie.{close}
+use Rattle.shortening.proofs.+fold_node.{statement}
+use Rattle.shortening.proofs.+fold_node.Tie.{close}
 
 abbrev μ-fold-node : Measures 3 fold-node-kinds.ps ℕ
 μ-fold-node κs a = a .1 .1 .1 .0
