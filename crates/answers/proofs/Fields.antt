@@ -15,9 +15,10 @@ use Rattle.folding.specs.Call.{FoldIs}
 use Rattle.folding.specs.declared.Shortened.{Shortened}
 use Rattle.folding.specs.declared.Shortened.the-variants as shortened
 use Rattle.heads.specs.Heads as heads
-use Rattle.heads.specs.Heads.{Head, HeadIs}
-use Rattle.heads.specs.declared.Joined.{Joined}
-use Rattle.heads.specs.declared.Joined.the-variants as joined
+use Rattle.naming.specs.OneSide.{Head}
+use Rattle.heads.specs.Heads.{HeadIs}
+use Rattle.naming.specs.declared.Joined.{Joined}
+use Rattle.naming.specs.declared.Joined.the-variants as joined
 use Rattle.answers.specs.Answer.{accepted, refusedWith, ofWritten, ofShortened, ofJoined}
 use Rattle.answers.specs.Tells.{Tells}
 use Rattle.answers.specs.declared.Answer.{Answer}

@@ -15,7 +15,8 @@ use Rattle.conditions.specs.Table.{leafOf}
 use Rattle.nodes.specs.Kind.{bodyOf, two, four}
 use Rattle.nodes.specs.declared.Allowed.the-variants.{Named}
 use Rattle.forms.specs.Form.{Parsed, tree, refusal, parsed, formStop}
-use Rattle.display.specs.Display.{display, hasHigh}
+use Rattle.quoting.specs.Quote.{hasHigh}
+use Rattle.display.specs.Display.{display}
 use Rattle.signs.specs.Sign.{precedence, spaced, prefix}
 
 -- parentheses (40, 41) where a test holds

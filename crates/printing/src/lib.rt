@@ -94,7 +94,7 @@ fn is_unprintable(b: &[u8], at: usize, stored: &[u8]) -> bool
     let word = nodes::leaf_word(b, at, 2);
     let start = (word / 65536 % 0x1_0000_0000) as usize;
     let end = start + (word % 65536) as usize;
-    display::has_high(&stored[start..end])
+    quoting::has_high(&stored[start..end])
 }
 
 // Refusal 15 over the literals of a condition whose form was accepted.

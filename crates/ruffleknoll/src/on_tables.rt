@@ -4,7 +4,7 @@ ghost use mathlib.Core.Bool.{true, false};
 ghost use lib.ListN.{length, take};
 ghost use Rattle.keys.specs.Key.{earlierOf};
 ghost use Rattle.heads.specs.Heads.{HeadIs, head};
-ghost use Rattle.heads.specs.declared.Joined.{Joined};
+ghost use Rattle.naming.specs.declared.Joined.{Joined};
 ghost use Rattle.answers.specs.Answer.{ofJoined};
 ghost use Rattle.answers.specs.Tells.{Tells};
 ghost use Rattle.answers.specs.Row.{PartIs};
