@@ -18,7 +18,7 @@ use Rattle.postfix.proofs.Numbers.{Small, two-small, four-small}
 use Rattle.postfix.proofs.Parsing.{node, parse-more, parse-full, Went, Became, put, node-went}
 use Rattle.quoting.specs.Quote.{hasHigh}
 use Rattle.printing.specs.Print.{isUnprintable, textsStop}
-use Rattle.printing.specs.Walk.{TextInside}
+use Rattle.printing.specs.Prepare.{TextInside}
 
 -- ---- one node
 

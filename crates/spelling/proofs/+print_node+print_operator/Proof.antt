@@ -1,11 +1,11 @@
--- `printing::print_node` and `printing::print_operator` meet their contracts, by recursion with falling depth: the measures are 2 * depth + 1 and
+-- `spelling::print_node` and `spelling::print_operator` meet their contracts, by recursion with falling depth: the measures are 2 * depth + 1 and
 -- 2 * depth. Each answer is one law of Walking. Assumes nothing.
 use mathlib.Core.Path.{refl, sym, _∙_}
 use native.Mathlib.Omega.{arith}
 use lib.Dec.{ltb}
 use borrow.Author.Needs.{needs, scaled-fits}
 use Rattle.signs.proofs.Lengths.{precedence-small}
-use Rattle.printing.proofs.Walking.{
+use Rattle.spelling.proofs.Walking.{
   in-table,
   deeper,
   leaf-asks,
@@ -25,20 +25,20 @@ use Rattle.printing.proofs.Walking.{
 use Prim.Native.Nat.{ℕ, _+_, _*_, _<_}
 use borrow.Fn.Kinds.{In}
 use borrow.Fn.PlainCycle.{Measures, is, falls, and}
-use Rattle.printing.proofs.print_node.Reads as print-node
-use Rattle.printing.proofs.print_node.Kinds as print-node-kinds
-use Rattle.printing.proofs.+print_node+print_operator.Lts-print_node as print-node-lts
-use Rattle.printing.proofs.print_operator.Reads as print-operator
-use Rattle.printing.proofs.print_operator.Kinds as print-operator-kinds
-use Rattle.printing.proofs.+print_node+print_operator.Lts-print_operator as print-operator-lts
+use Rattle.spelling.proofs.print_node.Reads as print-node
+use Rattle.spelling.proofs.print_node.Kinds as print-node-kinds
+use Rattle.spelling.proofs.+print_node+print_operator.Lts-print_node as print-node-lts
+use Rattle.spelling.proofs.print_operator.Reads as print-operator
+use Rattle.spelling.proofs.print_operator.Kinds as print-operator-kinds
+use Rattle.spelling.proofs.+print_node+print_operator.Lts-print_operator as print-operator-lts
 use Rattle.conditions.proofs.node_of.Reads as node-of-reads
-use Rattle.printing.proofs.put_leaf.Reads as put-leaf-reads
+use Rattle.spelling.proofs.put_leaf.Reads as put-leaf-reads
 use Rattle.puts.proofs.put_if.Reads as put-if-reads
 use Rattle.signs.proofs.precedence.Reads as precedence-reads
 use Rattle.signs.proofs.put_prefix.Reads as put-prefix-reads
 use Rattle.signs.proofs.put_sign.Reads as put-sign-reads
-use Rattle.printing.proofs.+print_node+print_operator.{statement}
-use Rattle.printing.proofs.+print_node+print_operator.Tie.{close}
+use Rattle.spelling.proofs.+print_node+print_operator.{statement}
+use Rattle.spelling.proofs.+print_node+print_operator.Tie.{close}
 
 abbrev μ-print-node : Measures 3 print-node-kinds.ps ℕ
 μ-print-node κs a = 2 * a .1 .1 .0 + 1

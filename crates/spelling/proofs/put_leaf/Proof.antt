@@ -1,12 +1,12 @@
--- `printing::put_leaf` meets its contract. Assumes nothing.
+-- `spelling::put_leaf` meets its contract. Assumes nothing.
 use denote.Ref.{now}
 use native.Mathlib.Nat.{add-sub-cancel-left}
 use lib.ListN.{length}
 use Rattle.puts.proofs.Putting.{puts-none}
-use Rattle.printing.proofs.Leaves.{atom-name, name-inside, atom-number, atom-literal, literal-well}
+use Rattle.spelling.proofs.Leaves.{atom-name, name-inside, atom-number, atom-literal, literal-well}
 use borrow.Author.Needs.{needs}
-use Rattle.printing.proofs.put_leaf.Statement.{statement}
-use Rattle.printing.proofs.put_leaf.Tie as tie
+use Rattle.spelling.proofs.put_leaf.Statement.{statement}
+use Rattle.spelling.proofs.put_leaf.Tie as tie
 
 add-end : tie.Need-add-end
 add-end c = search needs

@@ -14,9 +14,9 @@ use Rattle.conditions.specs.declared.Node.the-variants.{Leaf, One, Two}
 use Rattle.forms.specs.Held.{LeafHeld, Denotes}
 use Rattle.signs.specs.Sign.{precedence, spaced, prefix}
 use Rattle.signs.proofs.Lengths.{spaced-short, prefix-short}
-use Rattle.printing.specs.Print.{parenthesised, printedAtom, printed}
-use Rattle.printing.specs.Walk.{PrintAsks}
-use Rattle.printing.proofs.Leaves.{atom-short}
+use Rattle.spelling.specs.Spell.{parenthesised, printedAtom, printed}
+use Rattle.spelling.specs.Walk.{PrintAsks}
+use Rattle.spelling.proofs.Leaves.{atom-short}
 
 -- ---- how long a printed text gets
 

@@ -14,7 +14,7 @@ use Rattle.conditions.specs.Table.{leafOf}
 use Rattle.forms.specs.Held.{LeafHeld}
 use Rattle.display.specs.Display.{display}
 use Rattle.display.proofs.Shown.{shown-short}
-use Rattle.printing.specs.Print.{printedAtom}
+use Rattle.spelling.specs.Spell.{printedAtom}
 
 module _ (w : ℕ) (e : kindOf w ≡ 3) where
   -- a column's name

@@ -1,5 +1,5 @@
--- What is prepared for printing, and what the loop over the bytes and the walk over the table of nodes ask. Assumes nothing: these are definitions.
-use Prim.Native.Nat.{ℕ, _+_, _*_, _^_, _≤_, _<_}
+-- What is prepared for printing, and what the loop over the bytes asks. Assumes nothing: these are definitions.
+use Prim.Native.Nat.{ℕ, _+_, _≤_}
 use mathlib.Core.Path.{_≡_}
 use mathlib.Core.List.{List, [], _∷_}
 use lib.ListN.{length, getD}
@@ -7,11 +7,8 @@ use Rattle.refusals.specs.Stop.{Stop, never, firstOf, stopOf}
 use Rattle.checks.specs.Check.{roomStop}
 use Rattle.nodes.specs.Kind.{two, four}
 use Rattle.nodes.specs.declared.Allowed.the-variants.{Named}
-use Rattle.conditions.specs.Ast.{Tree, size, height}
-use Rattle.conditions.specs.Table.{nodeOf}
-use Rattle.conditions.specs.declared.Node.the-variants.{Two}
 use Rattle.forms.specs.Form.{parsed, formStop}
-use Rattle.forms.specs.Held.{Denotes, ScanIs}
+use Rattle.forms.specs.Held.{ScanIs}
 use Rattle.forms.specs.declared.Scanned.{Scanned}
 use Rattle.forms.specs.declared.Scanned.the-variants.{Table, Denied}
 use Rattle.printing.specs.Print.{textsStop}
@@ -24,17 +21,6 @@ beforeStop b stored size used = firstOf (roomStop 0 size used ∷ formStop (pars
 abbrev pub PreparedIs : List ℕ → List ℕ → ℕ → ℕ → List ℕ → Scanned → Type 0
 PreparedIs b stored size used nodes (Table n) = (beforeStop b stored size used ≡ never) × ScanIs used b nodes (Table n) (parsed Named used b)
 PreparedIs b stored size used nodes (Denied r) = beforeStop b stored size used ≡ stopOf r
-
--- a tree stands at k, at most so deep, and no place of its printed text overflows: a node takes at most 400,000 bytes
-pub record PrintAsks (stored nodes : List ℕ) (k depth at : ℕ) (t : Tree ℕ) : Type 0 where
-  pub denotes : Denotes (length stored) nodes k t
-  pub deep : height t ≤ depth
-  pub inside : k < length nodes
-  pub room : at + 400000 * size t < 2 ^ 63
-
--- the same where a two-sided operator stands at k, its left operand at l
-abbrev pub OperatorAsks : (stored nodes : List ℕ) (op l k depth at : ℕ) → Tree ℕ → Type 0
-OperatorAsks stored nodes op l k depth at t = (nodeOf (getD nodes k 0) ≡ Two op l) × PrintAsks stored nodes k depth at t
 
 -- where a text literal stands at an offset, its body lies inside the bytes and its text inside the stored one
 abbrev pub TextInside : (stored b : List ℕ) → ℕ → Type 0
