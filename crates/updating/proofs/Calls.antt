@@ -21,7 +21,7 @@ use Rattle.marking.specs.Marks.{part}
 use Rattle.marking.specs.declared.Marked.{Marked}
 use Rattle.marking.specs.declared.Marked.the-variants.{Rows}
 use Rattle.marking.proofs.Lists.{mark-at}
-use Rattle.selecting.specs.Select.{shortStop}
+use Rattle.keeping.specs.Table.{shortStop}
 use Rattle.selecting.proofs.Calls.{Question, widthOf, countOf, testFor, TableStop, PassedBy, MarkedBy, first-stops, written-as, refused-rows, says, passed-rows}
 use Rattle.updating.specs.Update.{areSets, setsStop, applied, updated, UpdateIs}
 use Rattle.updating.specs.Asked.{allWords, AllAsked}

@@ -20,7 +20,7 @@ use Rattle.marking.specs.Marks.{part}
 use Rattle.marking.proofs.Lists.{kept-below, words-length}
 use Rattle.marking.proofs.Marking.{row-inside, rowRead, row-read}
 use Rattle.projecting.proofs.Turns.{Writing, row-room, writing-turn}
-use Rattle.selecting.specs.Select.{shortStop}
+use Rattle.keeping.specs.Table.{shortStop}
 use Rattle.updating.specs.Update.{applied}
 use Rattle.updating.specs.Asked.{Within, rowAfter, allWords, AllAsked}
 use Rattle.updating.proofs.Setting.{applied-length}

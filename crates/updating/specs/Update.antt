@@ -16,7 +16,7 @@ use Rattle.tables.specs.Table.{columnCount}
 use Rattle.testing.specs.Test.{conditionStop}
 use Rattle.marking.specs.RowList.{Test, isTrue, keptFrom, refusedFrom, wordsOf}
 use Rattle.marking.specs.Marks.{part, testOf}
-use Rattle.selecting.specs.Select.{rowCount, tableStop, shortStop}
+use Rattle.keeping.specs.Table.{rowCount, tableStop, shortStop}
 
 -- a column number and a cell a set, at most 64 sets
 abbrev pub areSets : List ℕ → Bool

@@ -7,7 +7,7 @@ ghost use Rattle.slices.specs.Splice.{Wrote};
 ghost use Rattle.refusals.specs.Stop.{checkedOf};
 ghost use Rattle.writing.specs.Writing.{WrittenIs};
 ghost use Rattle.tables.specs.Table.{columnCount};
-ghost use Rattle.selecting.specs.Select.{shortStop};
+ghost use Rattle.keeping.specs.Table.{shortStop};
 ghost use Rattle.updating.specs.Update.{areSets, setsStop, applied, UpdateIs};
 ghost use Rattle.updating.specs.Asked.{setStop, Within, rowAfter, allWords, AllAsked};
 use cells::ValueRef;
@@ -143,7 +143,7 @@ pub fn update(
         (take used (now (text .entry))) (length (now (text .entry))) used (now (out .entry)) (now (out .exit)) r ⌝ }
     ensures { λ r. ⌜ (take used (now (text .exit)) ≡ take used (now (text .entry))) × (length (now (condition .entry)) ≡ 0 → now (text .exit) ≡ now (text .entry)) ⌝ }
 {
-    let table = selecting::check_table(columns, rows, are_sets(sets), condition, text.len(), used);
+    let table = keeping::check_table(columns, rows, are_sets(sets), condition, text.len(), used);
     if let Checked::Refused(r) = table {
         return Written::Refused(r);
     }

@@ -17,8 +17,8 @@ use Rattle.marking.specs.Marks.{part}
 use Rattle.marking.proofs.Lists.{kept-few, kept-below, words-length}
 use Rattle.marking.proofs.Marking.{row-inside}
 use Rattle.projecting.specs.Project.{projected, hasMark, markedWords}
-use Rattle.selecting.specs.Select.{shortStop}
-use Rattle.selecting.specs.Kept.{KeptAsks}
+use Rattle.keeping.specs.Table.{shortStop}
+use Rattle.keeping.specs.Kept.{KeptAsks}
 
 -- a projected row has at most 32 words
 few-words : (list row : List ℕ) → length row ≤ 32 → length list ≤ 32 → length (projected list row) ≤ 32

@@ -1,10 +1,10 @@
--- `selecting::write_kept` meets its contract. Assumes nothing.
+-- `keeping::write_kept` meets its contract. Assumes nothing.
 use denote.Ref.{now}
 use native.Mathlib.Omega.{arith}
-use Rattle.selecting.proofs.Keeping.{kept-fits, kept-short, kept-room, kept-written}
+use Rattle.keeping.proofs.Keeping.{kept-fits, kept-short, kept-room, kept-written}
 use borrow.Author.Needs.{needs}
-use Rattle.selecting.proofs.write_kept.Statement.{statement}
-use Rattle.selecting.proofs.write_kept.Tie as tie
+use Rattle.keeping.proofs.write_kept.Statement.{statement}
+use Rattle.keeping.proofs.write_kept.Tie as tie
 
 projected-width-requires : tie.Need-projected-width-requires
 projected-width-requires c κs = search needs

@@ -1,8 +1,8 @@
--- `selecting::room_for` meets its contract. Assumes nothing.
+-- `keeping::room_for` meets its contract. Assumes nothing.
 use denote.Ref.{now}
-use Rattle.selecting.proofs.Passing.{no-room, some-room}
-use Rattle.selecting.proofs.room_for.Statement.{statement}
-use Rattle.selecting.proofs.room_for.Tie as tie
+use Rattle.keeping.proofs.Passing.{no-room, some-room}
+use Rattle.keeping.proofs.room_for.Statement.{statement}
+use Rattle.keeping.proofs.room_for.Tie as tie
 
 returns : tie.Need-returns
 returns c = no-room (now (c .before .args .condition)) (c .if1 .taken)

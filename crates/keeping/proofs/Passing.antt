@@ -21,7 +21,7 @@ use Rattle.tables.proofs.Words.{Counted, table-counted, words-sound}
 use Rattle.testing.specs.Test.{roomFor}
 use Rattle.marking.specs.Whole.{TableAsks}
 use Rattle.marking.proofs.Lists.{cells-anywhere}
-use Rattle.selecting.specs.Select.{rowCount, tableStop}
+use Rattle.keeping.specs.Table.{rowCount, tableStop}
 
 -- ---- which check stops it
 

@@ -1,4 +1,4 @@
--- `selecting::check_table` meets its contract: what stops it in document 01's order. Assumes nothing.
+-- `keeping::check_table` meets its contract: what stops it in document 01's order. Assumes nothing.
 use denote.Ref.{now}
 use mathlib.Core.Path.{_≡_, sym, ap, _∙_}
 use mathlib.Core.Bool.{true}
@@ -9,10 +9,10 @@ use Rattle.checks.specs.Check.{roomStop}
 use Rattle.tables.specs.Table.{columnCount, isTable, areRows}
 use Rattle.tables.proofs.Words.{table-counted}
 use Rattle.testing.specs.Test.{roomFor}
-use Rattle.selecting.proofs.Passing.{room-stops, table-stops, rows-stop, counts-stop, words-stop}
+use Rattle.keeping.proofs.Passing.{room-stops, table-stops, rows-stop, counts-stop, words-stop}
 use borrow.Author.Needs.{needs}
-use Rattle.selecting.proofs.check_table.Statement.{statement}
-use Rattle.selecting.proofs.check_table.Tie as tie
+use Rattle.keeping.proofs.check_table.Statement.{statement}
+use Rattle.keeping.proofs.check_table.Tie as tie
 
 -- what was passed on the way
 room : (c : tie.After-enum-told) → roomStop (roomFor (now (c .before .before .before .before .before .before .before .args .condition))) (c .before .before .before .before .before .before .before .args .size) (c .before .before .before .before .before .before .before .args .used) ≡ never
