@@ -21,9 +21,9 @@ use Rattle.marking.proofs.Lists.{kept-below, words-length}
 use Rattle.marking.proofs.Marking.{row-inside, rowRead, row-read}
 use Rattle.projecting.proofs.Turns.{Writing, row-room, writing-turn}
 use Rattle.keeping.specs.Table.{shortStop}
-use Rattle.updating.specs.Update.{applied}
-use Rattle.updating.specs.Asked.{Within, rowAfter, allWords, AllAsked}
-use Rattle.updating.proofs.Setting.{applied-length}
+use Rattle.setting.specs.Sets.{applied}
+use Rattle.setting.specs.Asked.{Within, rowAfter, allWords, AllAsked}
+use Rattle.setting.proofs.Setting.{applied-length}
 
 -- ---- one row
 

@@ -1,11 +1,11 @@
--- `updating::apply_sets` meets its contract. The loop's invariant: applying the sets that are left gives the result. Assumes nothing.
+-- `setting::apply_sets` meets its contract. The loop's invariant: applying the sets that are left gives the result. Assumes nothing.
 use Prim.Native.Nat.{_/_, _-_}
 use native.Mathlib.Omega.{arith}
 use lib.ListN.{length}
-use Rattle.updating.proofs.Setting.{Applying, applying-start, applying-inside, applying-turn, applying-end}
+use Rattle.setting.proofs.Setting.{Applying, applying-start, applying-inside, applying-turn, applying-end}
 use borrow.Author.Needs.{needs}
-use Rattle.updating.proofs.apply_sets.Statement.{statement}
-use Rattle.updating.proofs.apply_sets.Tie as tie
+use Rattle.setting.proofs.apply_sets.Statement.{statement}
+use Rattle.setting.proofs.apply_sets.Tie as tie
 
 abbrev Inv-loop : tie.InvT-loop
 Inv-loop sets row₀ k₀ row k = Applying sets row₀ row k

@@ -12,7 +12,7 @@ use Rattle.rules.specs.Rule.{isValidValue}
 use Rattle.tables.specs.Table.{columnCount}
 use Rattle.marking.specs.RowList.{keptFrom, wordsOf}
 use Rattle.marking.specs.Marks.{part}
-use Rattle.updating.specs.Update.{applied}
+use Rattle.setting.specs.Sets.{applied}
 
 -- one set: 4 for its column, then 8 and 3 for its cell, then 13 for the cell in that column
 unfoldable pub setStop : ℕ → List ℕ → List ℕ → ℕ → ℕ → ℕ → Stop

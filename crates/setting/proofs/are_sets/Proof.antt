@@ -1,7 +1,7 @@
--- `updating::are_sets` meets its contract. Assumes nothing.
+-- `setting::are_sets` meets its contract. Assumes nothing.
 use borrow.Author.Tests.{eq-eqb, ne-eqb}
-use Rattle.updating.proofs.are_sets.Statement.{statement}
-use Rattle.updating.proofs.are_sets.Tie as tie
+use Rattle.setting.proofs.are_sets.Statement.{statement}
+use Rattle.setting.proofs.are_sets.Tie as tie
 
 returns : tie.Need-returns
 returns c = rw (ne-eqb _ 0 (c .if1 .taken))

@@ -1,8 +1,8 @@
--- `updating::check_set` meets its contract. Assumes nothing.
-use Rattle.updating.proofs.Setting.{set-column, set-cell, set-invalid, set-sound}
+-- `setting::check_set` meets its contract. Assumes nothing.
+use Rattle.setting.proofs.Setting.{set-column, set-cell, set-invalid, set-sound}
 use borrow.Author.Needs.{needs}
-use Rattle.updating.proofs.check_set.Statement.{statement}
-use Rattle.updating.proofs.check_set.Tie as tie
+use Rattle.setting.proofs.check_set.Statement.{statement}
+use Rattle.setting.proofs.check_set.Tie as tie
 
 returns : tie.Need-returns
 returns c = λ stored l. set-column _ stored _ _ _ _ (c .if1 .taken)

@@ -1,14 +1,14 @@
--- `updating::check_sets` meets its contract. The loop's invariant: the sets are refused as those that are left. Assumes nothing.
+-- `setting::check_sets` meets its contract. The loop's invariant: the sets are refused as those that are left. Assumes nothing.
 use mathlib.Core.Path.{_≡_, refl, sym, _∙_}
 use mathlib.Core.List.{List}
 use Prim.Native.Nat.{ℕ, _*_, _/_, _-_}
 use lib.ListN.{length, drop}
 use Rattle.refusals.proofs.First.{refused-first, sound-first}
-use Rattle.updating.specs.Update.{setsStop}
-use Rattle.updating.proofs.Setting.{sets-turn, sets-end}
+use Rattle.setting.specs.Sets.{setsStop}
+use Rattle.setting.proofs.Setting.{sets-turn, sets-end}
 use borrow.Author.Needs.{needs}
-use Rattle.updating.proofs.check_sets.Statement.{statement}
-use Rattle.updating.proofs.check_sets.Tie as tie
+use Rattle.setting.proofs.check_sets.Statement.{statement}
+use Rattle.setting.proofs.check_sets.Tie as tie
 
 abbrev Inv-loop : tie.InvT-loop
 Inv-loop columns sets used k₀ k = (stored : List ℕ) → length stored ≡ used → setsStop used stored columns 0 sets ≡ setsStop used stored columns k (drop (2 * k) sets)

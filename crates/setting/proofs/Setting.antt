@@ -20,8 +20,8 @@ use Rattle.cells.proofs.Stops.{well-formed, well-inside}
 use Rattle.values.specs.Value.{toValue, valueOf}
 use Rattle.rules.specs.Rule.{isValidValue}
 use Rattle.tables.specs.Table.{columnCount}
-use Rattle.updating.specs.Update.{setsStop, applied}
-use Rattle.updating.specs.Asked.{setStop, Within}
+use Rattle.setting.specs.Sets.{setsStop, applied}
+use Rattle.setting.specs.Asked.{setStop, Within}
 
 -- ---- one set
 

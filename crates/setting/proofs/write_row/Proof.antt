@@ -1,8 +1,8 @@
--- `updating::write_row` meets its contract. Assumes nothing.
-use Rattle.updating.proofs.Rows.{row-asks, row-plain, row-set}
+-- `setting::write_row` meets its contract. Assumes nothing.
+use Rattle.setting.proofs.Rows.{row-asks, row-plain, row-set}
 use borrow.Author.Needs.{needs}
-use Rattle.updating.proofs.write_row.Statement.{statement}
-use Rattle.updating.proofs.write_row.Tie as tie
+use Rattle.setting.proofs.write_row.Statement.{statement}
+use Rattle.setting.proofs.write_row.Tie as tie
 
 copy-words-requires : tie.Need-copy-words-requires
 copy-words-requires c κs = search needs
