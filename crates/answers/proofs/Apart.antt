@@ -30,8 +30,8 @@ use Rattle.evaluation.specs.declared.Evaluated.{Evaluated}
 use Rattle.evaluation.specs.declared.Evaluated.the-variants as evaluated
 use Rattle.folding.specs.declared.Shortened.{Shortened}
 use Rattle.folding.specs.declared.Shortened.the-variants as shortened
-use Rattle.heads.specs.declared.Joined.{Joined}
-use Rattle.heads.specs.declared.Joined.the-variants as joined
+use Rattle.naming.specs.declared.Joined.{Joined}
+use Rattle.naming.specs.declared.Joined.the-variants as joined
 use Rattle.answers.specs.Answer.{refusedWith, accepted, ofWritten, ofEvaluated, ofShortened, ofJoined}
 use Rattle.answers.specs.declared.Answer.{Answer}
 

@@ -9,15 +9,16 @@ use Rattle.writing.specs.Writing as writing
 use Rattle.writing.specs.Writing.{WrittenIs}
 use Rattle.writing.specs.declared.Written.{Written}
 use Rattle.writing.specs.declared.Written.the-variants as written
-use Rattle.folding.specs.Fold.{Folding}
+use Rattle.replacing.specs.Fold.{Folding}
 use Rattle.folding.specs.Call as folding
 use Rattle.folding.specs.Call.{FoldIs}
 use Rattle.folding.specs.declared.Shortened.{Shortened}
 use Rattle.folding.specs.declared.Shortened.the-variants as shortened
 use Rattle.heads.specs.Heads as heads
-use Rattle.heads.specs.Heads.{Head, HeadIs}
-use Rattle.heads.specs.declared.Joined.{Joined}
-use Rattle.heads.specs.declared.Joined.the-variants as joined
+use Rattle.naming.specs.OneSide.{Head}
+use Rattle.heads.specs.Heads.{HeadIs}
+use Rattle.naming.specs.declared.Joined.{Joined}
+use Rattle.naming.specs.declared.Joined.the-variants as joined
 use Rattle.answers.specs.Answer.{accepted, refusedWith, ofWritten, ofShortened, ofJoined}
 use Rattle.answers.specs.Tells.{Tells}
 use Rattle.answers.specs.declared.Answer.{Answer}

@@ -16,13 +16,14 @@ use Rattle.evaluation.specs.Evaluation.{EvaluatedIs}
 use Rattle.evaluation.specs.declared.Evaluated.{Evaluated}
 use Rattle.evaluation.specs.declared.Evaluated.the-variants.{Cell, Refused}
 use Rattle.evaluation.proofs.Unique.{Alike, Same, one-evaluation}
-use Rattle.folding.specs.Fold.{Folding}
+use Rattle.replacing.specs.Fold.{Folding}
 use Rattle.folding.specs.Call.{FoldIs, storedAfter}
 use Rattle.folding.specs.declared.Shortened.{Shortened}
 use Rattle.folding.proofs.Unique.{one-fold}
 use Rattle.heads.specs.Heads as heads
-use Rattle.heads.specs.Heads.{Head, HeadIs}
-use Rattle.heads.specs.declared.Joined.{Joined}
+use Rattle.naming.specs.OneSide.{Head}
+use Rattle.heads.specs.Heads.{HeadIs}
+use Rattle.naming.specs.declared.Joined.{Joined}
 use Rattle.heads.proofs.Unique.{one-head}
 use Rattle.answers.specs.Answer.{ofWritten, ofEvaluated, ofShortened, ofJoined}
 use Rattle.answers.specs.Tells.{Tells}

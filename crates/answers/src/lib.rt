@@ -7,7 +7,7 @@ ghost use Rattle.answers.specs.Earlier.{whichOf, whichEarlier, handed};
 use columns::RowNumber;
 use evaluation::Evaluated;
 use folding::Shortened;
-use heads::Joined;
+use naming::Joined;
 use refusals::Checked;
 use refusals::Refusal;
 use slices::Ordering;

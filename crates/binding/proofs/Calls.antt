@@ -27,7 +27,8 @@ use Rattle.evaluation.specs.Evaluation.{atZero, stops, evaluation, Says, Evalua
 use Rattle.evaluation.specs.declared.Evaluated.{Evaluated}
 use Rattle.evaluation.proofs.Narrowing.{Narrow}
 use Rattle.evaluation.proofs.Stopping.{row-right, at-none}
-use Rattle.binding.specs.Bind.{bindLeaf, namesStop, bindStop, boundBytes, BindIs, byName}
+use Rattle.numbering.specs.Number.{bindLeaf, namesStop}
+use Rattle.binding.specs.Bind.{bindStop, boundBytes, BindIs, byName}
 use Rattle.binding.proofs.Walking.{size-map}
 use Rattle.binding.proofs.Stopping.{room-there, columns-count, accepted-before, accepted-names}
 use Rattle.binding.proofs.Meaning.{bind-means}

@@ -1,5 +1,4 @@
 -- What the proofs of several functions use, here and above.
-pub mod Leaves
 pub mod Walking
 pub mod Stopping
 pub mod Unique

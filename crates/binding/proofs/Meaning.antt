@@ -20,8 +20,9 @@ use Rattle.operators.specs.declared.Rules.{Rules}
 use Rattle.conditions.specs.Ast.{Tree, leaf, unary, binary, column, literal, mapTree, eval, andThen, decides, twoSided}
 use Rattle.conditions.specs.Table.{leafOf}
 use Rattle.postfix.specs.Postfix.{width}
-use Rattle.binding.specs.Bind.{columnOf, numbered, bindLeaf, isNowhere, namesStop, byName}
-use Rattle.binding.proofs.Leaves.{number-below}
+use Rattle.numbering.specs.Number.{columnOf, numbered, bindLeaf, isNowhere, namesStop}
+use Rattle.binding.specs.Bind.{byName}
+use Rattle.numbering.proofs.Leaves.{number-below}
 
 module _ (R : Rules) (row : List Value) (stored columns : List ℕ) (few : length columns ≤ 64) where
   -- a number's leaf means its column

@@ -25,8 +25,8 @@ use Rattle.postfix.proofs.Reading.{one-bytes, two-bytes, past, before}
 use Rattle.forms.specs.Number.{isMissing, numbersStop}
 use Rattle.forms.proofs.Numbers.{numbers-end}
 use Rattle.evaluation.proofs.Narrowing.{Narrow}
-use Rattle.binding.specs.Bind.{columnOf, numbered, bindLeaf, isNowhere, namesStop}
-use Rattle.binding.proofs.Leaves.{first-below, names-length}
+use Rattle.numbering.specs.Number.{columnOf, numbered, bindLeaf, isNowhere, namesStop}
+use Rattle.numbering.proofs.Leaves.{first-below, names-length}
 
 -- ---- refusal 4 over the bytes of a tree
 

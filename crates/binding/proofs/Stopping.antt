@@ -26,11 +26,12 @@ use Rattle.forms.specs.declared.Scanned.{Scanned}
 use Rattle.forms.specs.declared.Scanned.the-variants.{Table, Denied}
 use Rattle.tables.specs.Table.{isTable, countStop}
 use Rattle.tables.proofs.Words.{table-counted}
-use Rattle.binding.specs.Bind.{namesStop, ofTree, bindStop, boundBytes, BindIs}
+use Rattle.numbering.specs.Number.{namesStop}
+use Rattle.binding.specs.Bind.{ofTree, bindStop, boundBytes, BindIs}
 use Rattle.binding.specs.Asked.{beforeStop}
-use Rattle.binding.specs.Walk.{BindAsks, Binds}
-use Rattle.binding.specs.declared.Part.{Part}
-use Rattle.binding.specs.declared.Part.the-variants.{Bound, Refused}
+use Rattle.numbering.specs.Walk.{BindAsks, Binds}
+use Rattle.numbering.specs.declared.Part.{Part}
+use Rattle.numbering.specs.declared.Part.the-variants.{Bound, Refused}
 use Rattle.binding.proofs.Walking.{bound-width}
 
 -- what stands in one group stands in order

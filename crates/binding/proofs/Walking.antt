@@ -14,11 +14,11 @@ use Rattle.conditions.specs.declared.Node.the-variants.{Leaf, One, Two}
 use Rattle.forms.specs.Held.{LeafHeld, Denotes}
 use Rattle.postfix.specs.Postfix.{bytesOf, width}
 use Rattle.postfix.proofs.Reading.{width-size}
-use Rattle.binding.specs.Bind.{bindLeaf, namesStop}
-use Rattle.binding.specs.Asked.{LeafAsks}
-use Rattle.binding.specs.Walk.{BindAsks, Binds}
-use Rattle.binding.specs.declared.Part.{Part}
-use Rattle.binding.specs.declared.Part.the-variants.{Bound, Refused}
+use Rattle.numbering.specs.Number.{bindLeaf, namesStop}
+use Rattle.numbering.specs.Asked.{LeafAsks}
+use Rattle.numbering.specs.Walk.{BindAsks, Binds}
+use Rattle.numbering.specs.declared.Part.{Part}
+use Rattle.numbering.specs.declared.Part.the-variants.{Bound, Refused}
 
 -- binding changes no count
 pub size-map : {A B : Type 0} (f : A → B) (t : Tree A) → size (mapTree f t) ≡ size t

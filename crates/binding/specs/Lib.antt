@@ -1,3 +1,2 @@
 pub mod Bind
 pub mod Asked
-pub mod Walk

@@ -1,54 +1,18 @@
 // The call `bind`: column names give way to column numbers.
 ghost use mathlib.Core.Path.{_≡_};
-ghost use mathlib.Core.Bool.{not};
 ghost use Prim.Native.Nat.{ℕ};
 ghost use lib.ListN.{length, take};
-ghost use Rattle.refusals.specs.Stop.{checkedOf, stopIf};
-ghost use Rattle.conditions.specs.Ast.{Tree, leaf};
+ghost use Rattle.refusals.specs.Stop.{checkedOf};
+ghost use Rattle.conditions.specs.Ast.{Tree};
 ghost use Rattle.binding.specs.Bind.{BindIs};
-ghost use Rattle.binding.specs.Asked.{LeafAsks, beforeStop};
-ghost use Rattle.binding.specs.Walk.{BindAsks, Binds};
-use columns::Found;
+ghost use Rattle.binding.specs.Asked.{beforeStop};
+ghost use Rattle.numbering.specs.Walk.{BindAsks, Binds};
 use conditions::Node;
 use forms::Scanned;
 use nodes::Allowed;
+use numbering::Part;
 use refusals::Checked;
-use refusals::Refusal;
 use writing::Written;
-
-// A part of the condition bound: the place after its bytes and the offset after the part itself; or a refusal.
-pub enum Part {
-    Bound(usize, usize),
-    Refused(Refusal),
-}
-
-// A leaf: a name, of 7 bytes, gives way to its column's number, of 2; any other leaf is written as it is.
-fn bind_leaf(
-    word: u64,
-    columns: &[u64],
-    stored: &[u8],
-    at: usize,
-    out: &mut [u8],
-    end: usize,
-) -> Part
-    requires { ⌜ LeafAsks (now stored) (now columns) (now out) word at end ⌝ }
-    ensures { λ r. ⌜ Binds (now (stored .entry)) (now (columns .entry)) (now (out .entry)) (now (out .exit)) at end (leaf word) r ⌝ }
-{
-    let kind = word / 0x100_0000_0000_0000;
-    if kind != 3 {
-        let next = at + 1 + nodes::body_of(kind);
-        return Part::Bound(postfix::write_leaf(word, out, end), next);
-    }
-    let start = (word / 65536 % 0x1_0000_0000) as usize;
-    let past = start + (word % 65536) as usize;
-    match columns::find_column(columns, stored, &stored[start..past]) {
-        Found::Nothing => Part::Refused(Refusal::NoSuchColumn(at)),
-        Found::At(number) => {
-            let bound = 0x400_0000_0000_0000 + number.0 as u64;
-            Part::Bound(postfix::write_leaf(bound, out, end), at + 7)
-        }
-    }
-}
 
 // The tree whose last node stands at k, by recursion with falling depth: operands first, the left one before the right, then the operator.
 fn bind_node(
@@ -66,7 +30,7 @@ fn bind_node(
         Binds (now (stored .entry)) (now (columns .entry)) (now (out .entry)) (now (out .exit)) at end t r) ⌝ }
 {
     match conditions::node_of(nodes[k]) {
-        Node::Leaf(word) => bind_leaf(word, columns, stored, at, out, end),
+        Node::Leaf(word) => numbering::bind_leaf(word, columns, stored, at, out, end),
         Node::One(op) => {
             let a = bind_node(nodes, k - 1, depth - 1, columns, stored, at, out, end);
             let Part::Bound(e, n) = a else {

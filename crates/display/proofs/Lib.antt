@@ -1,4 +1,3 @@
 -- What the proofs of several functions use, here and above.
 pub mod Decimal
-pub mod Quoting
 pub mod Shown

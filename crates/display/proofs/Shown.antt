@@ -14,9 +14,10 @@ use Rattle.cells.specs.Cell.{kindOf, startOf, lengthOf, WellFormed}
 use Rattle.cells.proofs.Words.{ref-int, ref-str, ref-binary, ref-null}
 use Rattle.cells.proofs.Stops.{never-stops, ends-inside}
 use Rattle.values.specs.Value.{valueOf, toValue}
-use Rattle.display.specs.Display.{decimal, quoted, display}
+use Rattle.quoting.specs.Quote.{quoted}
+use Rattle.display.specs.Display.{decimal, display}
 use Rattle.display.proofs.Decimal.{decimal-short}
-use Rattle.display.proofs.Quoting.{quoted-short}
+use Rattle.quoting.proofs.Quoting.{quoted-short}
 
 module _ (stored : List ℕ) (w : ℕ) where
   -- an Int

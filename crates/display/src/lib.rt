@@ -1,14 +1,13 @@
 // Values as they are printed: Display of value.rs, a text as `{:?}` quotes it. Every call puts its bytes as far as there is room and returns the place
 // after all of them.
-ghost use mathlib.Core.Path.{_≡_};
-ghost use Prim.Native.Nat.{_+_, _*_, _<_, _^_};
+ghost use Prim.Native.Nat.{_+_, _<_, _^_};
 ghost use lib.ListN.{length};
 ghost use mir.Syntax.{w32};
 ghost use mir.Val.{toZ};
 ghost use Rattle.cells.specs.Cell.{WellFormed};
 ghost use Rattle.values.specs.Value.{valueOf};
 ghost use Rattle.puts.specs.Put.{Puts};
-ghost use Rattle.display.specs.Display.{digits, decimal, hexDigit, hex, escaped, quoted, display, hasHigh};
+ghost use Rattle.display.specs.Display.{digits, decimal, display};
 
 // The decimal digits of a number, at most so many.
 fn put_digits(most: usize, n: u64, out: &mut [u8], at: usize) -> usize
@@ -37,64 +36,6 @@ fn put_decimal(bits: u64, out: &mut [u8], at: usize) -> usize
     put_digits(10, 0x1_0000_0000 - bits, out, next)
 }
 
-// A hexadecimal digit in lower case.
-fn hex_digit(n: u8) -> u8
-    requires { ⌜ n < 16 ⌝ }
-    ensures { λ r. ⌜ r ≡ hexDigit n ⌝ }
-{
-    if n < 10 {
-        return 48 + n;
-    }
-    87 + n
-}
-
-// A byte in hexadecimal digits, without leading zeros.
-fn put_hex(b: u8, out: &mut [u8], at: usize) -> usize
-    requires { ⌜ at + 2 < 2 ^ 64 ⌝ }
-    ensures { λ r. ⌜ Puts (now (out .entry)) at (hex b) r (now (out .exit)) ⌝ }
-{
-    if b < 16 {
-        return puts::put_byte(hex_digit(b), out, at);
-    }
-    let next = puts::put_byte(hex_digit(b / 16), out, at);
-    puts::put_byte(hex_digit(b % 16), out, next)
-}
-
-// A byte of a quoted text.
-fn put_escaped(b: u8, out: &mut [u8], at: usize) -> usize
-    requires { ⌜ at + 6 < 2 ^ 64 ⌝ }
-    ensures { λ r. ⌜ Puts (now (out .entry)) at (escaped b) r (now (out .exit)) ⌝ }
-{
-    match b {
-        b'"' => puts::put_bytes(b"\\\"", out, at),
-        b'\\' => puts::put_bytes(b"\\\\", out, at),
-        0 => puts::put_bytes(b"\\0", out, at),
-        9 => puts::put_bytes(b"\\t", out, at),
-        10 => puts::put_bytes(b"\\n", out, at),
-        13 => puts::put_bytes(b"\\r", out, at),
-        1..=31 | 127 => {
-            let from = puts::put_bytes(b"\\u{", out, at);
-            let next = put_hex(b, out, from);
-            puts::put_byte(b'}', out, next)
-        }
-        _ => puts::put_byte(b, out, at),
-    }
-}
-
-// A text between quotes.
-fn put_text(bytes: &[u8], out: &mut [u8], at: usize) -> usize
-    requires { ⌜ at + (6 * length (now bytes) + 8) < 2 ^ 64 ⌝ }
-    ensures { λ r. ⌜ Puts (now (out .entry)) at (quoted (now (bytes .entry))) r (now (out .exit)) ⌝ }
-{
-    let mut next = puts::put_byte(b'"', out, at);
-    let mut i: usize = 0;
-    while i < bytes.len() {
-        next = put_escaped(bytes[i], out, next);
-        i += 1;
-    }
-    puts::put_byte(b'"', out, next)
-}
-
 // A value by its word.
 pub fn put_value(word: u64, stored: &[u8], out: &mut [u8], at: usize) -> usize
     requires { ⌜ WellFormed (length (now stored)) word × (at + 400000 < 2 ^ 64) ⌝ }
@@ -105,23 +46,9 @@ pub fn put_value(word: u64, stored: &[u8], out: &mut [u8], at: usize) -> usize
         2 => {
             let start = (word / 65536 % 0x1_0000_0000) as usize;
             let end = start + (word % 65536) as usize;
-            put_text(&stored[start..end], out, at)
+            quoting::put_text(&stored[start..end], out, at)
         }
         3 => puts::put_bytes(b"BINARY_STREAM", out, at),
         _ => puts::put_bytes(b"NULL", out, at),
     }
-}
-
-// Whether a text has a byte of 128 or more.
-pub fn has_high(bytes: &[u8]) -> bool
-    ensures { λ r. ⌜ r ≡ hasHigh (now (bytes .entry)) ⌝ }
-{
-    let mut i: usize = 0;
-    while i < bytes.len() {
-        if 128 <= bytes[i] {
-            return true;
-        }
-        i += 1;
-    }
-    false
 }

@@ -27,7 +27,7 @@ use Rattle.forms.specs.Form.{nodeAt, parse}
 use Rattle.forms.specs.Number.{numbersStop}
 use Rattle.evaluation.specs.Evaluation.{isRowLength, evaluation}
 use Rattle.postfix.specs.Postfix.{little, bodyBytes, bytesOf}
-use Rattle.folding.specs.Fold.{fold}
+use Rattle.replacing.specs.Fold.{fold}
 use Rattle.folding.specs.Call.{folding}
 use Rattle.rules.specs.Rule.{isRule}
 use Rattle.columns.specs.Column.{isText, nameStop, columnStop, columnsStop}

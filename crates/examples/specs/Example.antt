@@ -11,7 +11,7 @@ use Rattle.operators.specs.Operator.{unaryOf, binaryOf}
 use Rattle.operators.specs.declared.Rules.{Rules}
 use Rattle.evaluation.specs.Evaluation.{Result, gave, evaluation}
 use Rattle.postfix.specs.Postfix.{bytesOf}
-use Rattle.folding.specs.Fold.{Folding, folded}
+use Rattle.replacing.specs.Fold.{Folding, folded}
 use Rattle.folding.specs.Call.{folding}
 use Rattle.entries.specs.Entries.{Row, rowIn, Given, listWords, Outcome as JoinOutcome, answered, leftJoin}
 use Rattle.joins.specs.Join.{rowsOf, isWhole, givenOf}

@@ -19,11 +19,11 @@ use Rattle.conditions.specs.Ast.{Tree, Ast, leaf, unary, binary, literal, colum
 use Rattle.conditions.specs.Table.{leafOf}
 use Rattle.conditions.proofs.Giving.{value-more}
 use Rattle.forms.specs.Held.{LeafHeld}
-use Rattle.folding.specs.Fold.{folded, appended, fold}
-use Rattle.folding.proofs.Ways.{literalAt, Folds, same, kept-one, kept-two, value-one, value-two, fold-folds}
-use Rattle.folding.specs.Walk.{AllHeld, Literal}
-use Rattle.folding.proofs.Literals.{literal-one, literal-two, leaf-literal, literal-means}
-use Rattle.folding.proofs.Growing.{Extends, Grown, held-higher, longer, folds-grown}
+use Rattle.replacing.specs.Fold.{folded, appended, fold}
+use Rattle.shortening.proofs.Ways.{literalAt, Folds, same, kept-one, kept-two, value-one, value-two, fold-folds}
+use Rattle.replacing.specs.Walk.{AllHeld, Literal}
+use Rattle.replacing.proofs.Literals.{literal-one, literal-two, leaf-literal, literal-means}
+use Rattle.shortening.proofs.Growing.{Extends, Grown, held-higher, longer, folds-grown}
 
 -- ---- a longer stored text
 

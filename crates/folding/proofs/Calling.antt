@@ -26,14 +26,14 @@ use Rattle.forms.specs.declared.Scanned.the-variants.{Table, Denied}
 use Rattle.evaluation.proofs.Whole.{joins-size}
 use Rattle.postfix.specs.Postfix.{bytesOf, width}
 use Rattle.postfix.proofs.Reading.{width-size}
-use Rattle.folding.specs.Fold.{Folding, folded, fold}
-use Rattle.folding.specs.Walk.{FoldAsks, Gives, Says}
+use Rattle.replacing.specs.Fold.{Folding, folded, fold}
+use Rattle.replacing.specs.Walk.{FoldAsks, Gives, Says}
 use Rattle.folding.specs.Call.{foldStop, folding, storedAfter, wrote, Report, FoldIs, PreparedIs}
-use Rattle.folding.specs.declared.Part.{Part}
-use Rattle.folding.specs.declared.Part.the-variants.{Folded, Refused}
+use Rattle.replacing.specs.declared.Part.{Part}
+use Rattle.replacing.specs.declared.Part.the-variants.{Folded, Refused}
 use Rattle.folding.specs.declared.Shortened.the-variants.{Bytes}
 use Rattle.folding.specs.declared.Shortened.{Shortened}
-use Rattle.folding.proofs.Growing.{Grown, grown}
+use Rattle.shortening.proofs.Growing.{Grown, grown}
 
 -- ---- which check stops it
 

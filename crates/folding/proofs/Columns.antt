@@ -12,11 +12,11 @@ use Rattle.values.specs.Value.{Value}
 use Rattle.integers.specs.Outcome.{cellAt}
 use Rattle.operators.specs.declared.Rules.{Rules}
 use Rattle.conditions.specs.Ast.{Tree, leaf, unary, binary, joins}
-use Rattle.folding.specs.Fold.{folded, fold}
-use Rattle.folding.proofs.Ways.{literalAt, Folds, same, kept-one, kept-two, value-one, value-two, fold-folds}
-use Rattle.folding.specs.Walk.{Literal}
-use Rattle.folding.proofs.Literals.{literal-one, literal-two, literal-kind}
-use Rattle.folding.proofs.Growing.{folds-grown}
+use Rattle.replacing.specs.Fold.{folded, fold}
+use Rattle.shortening.proofs.Ways.{literalAt, Folds, same, kept-one, kept-two, value-one, value-two, fold-folds}
+use Rattle.replacing.specs.Walk.{Literal}
+use Rattle.replacing.proofs.Literals.{literal-one, literal-two, literal-kind}
+use Rattle.shortening.proofs.Growing.{folds-grown}
 
 -- the words of the leaves that are columns, by name (3) or by number (4), left to right
 unfoldable pub columnsOf : Tree ℕ → List ℕ

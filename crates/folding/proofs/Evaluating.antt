@@ -22,8 +22,8 @@ use Rattle.forms.specs.Number.{numbersStop}
 use Rattle.evaluation.specs.Evaluation.{isRowLength, stops, Result, gave, atZero, ofTree, unlessStopped, evaluation}
 use Rattle.postfix.specs.Postfix.{bytesOf}
 use Rattle.postfix.proofs.Reading.{Readable}
-use Rattle.folding.specs.Walk.{AllHeld}
-use Rattle.folding.proofs.Growing.{Extends, longer, grown}
+use Rattle.replacing.specs.Walk.{AllHeld}
+use Rattle.shortening.proofs.Growing.{Extends, longer, grown}
 use Rattle.folding.proofs.Columns.{columnsOf, fold-columns}
 use Rattle.folding.proofs.Alike.{value-longer, fold-alike}
 use Rattle.folding.proofs.ReadBack.{Accepted, was-read, joins-room, now-read}

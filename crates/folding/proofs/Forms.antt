@@ -25,7 +25,7 @@ use Rattle.postfix.proofs.Leaves.{length-body, bytes-column}
 use Rattle.postfix.proofs.Numbers.{one-drop, one-little}
 use Rattle.postfix.proofs.Parsing.{parse-more}
 use Rattle.postfix.proofs.Reading.{LeafReadable, Readable, one-bytes, two-bytes, past, before, parse-tree, readable-parsed}
-use Rattle.folding.specs.Walk.{AllHeld}
+use Rattle.replacing.specs.Walk.{AllHeld}
 use Rattle.folding.proofs.Columns.{columnsOf}
 
 -- ---- tests on columns

@@ -1,13 +1,7 @@
 -- What the proofs of several functions use, here and above.
-pub mod Ways
-pub mod Results
-pub mod Literals
-pub mod Growing
 pub mod Alike
 pub mod Columns
 pub mod Places
-pub mod Standing
-pub mod Walking
 pub mod Calling
 pub mod Unique
 pub mod ReadBack

@@ -8,9 +8,9 @@ use Rattle.integers.specs.Outcome.{Outcome}
 use Rattle.operators.specs.declared.Rules.{Rules}
 use Rattle.conditions.specs.Ast.{Tree, unary, binary}
 use Rattle.postfix.specs.Postfix.{bytesOf, width}
-use Rattle.folding.specs.Fold.{Folding, fold}
-use Rattle.folding.proofs.Ways.{Refuses, only, left, right, own-one, own-two, fold-refuses}
-use Rattle.folding.proofs.Results.{Result, result-unary, result-binary}
+use Rattle.replacing.specs.Fold.{Folding, fold}
+use Rattle.shortening.proofs.Ways.{Refuses, only, left, right, own-one, own-two, fold-refuses}
+use Rattle.replacing.proofs.Results.{Result, result-unary, result-binary}
 
 -- a refusal's number and place, of a tree whose bytes begin at this offset
 pub record Placed (at : ℕ) (t : Tree ℕ) (n p : ℕ) : Type 0 where

@@ -20,7 +20,7 @@ use Rattle.evaluation.specs.Evaluation.{Result, gave, evaluation, Says, Evaluat
 use Rattle.evaluation.specs.declared.Evaluated.{Evaluated}
 use Rattle.evaluation.specs.declared.Evaluated.the-variants.{Cell, Refused}
 use Rattle.postfix.specs.Postfix.{bytesOf, width}
-use Rattle.folding.specs.Fold.{Folding, folded}
+use Rattle.replacing.specs.Fold.{Folding, folded}
 use Rattle.folding.specs.Call.{wrote, report, folding, storedAfter, outputAfter, FoldIs}
 use Rattle.folding.specs.declared.Shortened.the-variants.{Bytes}
 use Rattle.folding.proofs.Calling.{there}

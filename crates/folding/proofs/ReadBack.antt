@@ -20,12 +20,12 @@ use Rattle.evaluation.proofs.Whole.{joins-size}
 use Rattle.postfix.specs.Postfix.{bytesOf}
 use Rattle.postfix.proofs.Readable.{leaf-readable}
 use Rattle.postfix.proofs.Reading.{LeafReadable, Readable, parsed-readable, readable-parsed}
-use Rattle.folding.specs.Fold.{folded, appended, fold}
-use Rattle.folding.specs.Walk.{Literal}
+use Rattle.replacing.specs.Fold.{folded, appended, fold}
+use Rattle.replacing.specs.Walk.{Literal}
 use Rattle.folding.specs.Call.{foldStop, folding, ofTree, unlessStopped}
-use Rattle.folding.proofs.Ways.{literalAt, Folds, same, kept-one, kept-two, value-one, value-two, fold-folds}
-use Rattle.folding.proofs.Literals.{literal-one, literal-two}
-use Rattle.folding.proofs.Growing.{longer, folds-grown, grown}
+use Rattle.shortening.proofs.Ways.{literalAt, Folds, same, kept-one, kept-two, value-one, value-two, fold-folds}
+use Rattle.replacing.proofs.Literals.{literal-one, literal-two}
+use Rattle.shortening.proofs.Growing.{longer, folds-grown, grown}
 use Rattle.folding.proofs.Calling.{there}
 
 -- ---- readable trees

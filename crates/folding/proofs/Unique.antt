@@ -6,7 +6,7 @@ use native.Mathlib.Omega.{arith}
 use lib.ListN.{length, take}
 use Rattle.refusals.specs.Stop.{Stop, never, stop, stopOf}
 use Rattle.refusals.proofs.Unique.{one-refusal}
-use Rattle.folding.specs.Fold.{Folding}
+use Rattle.replacing.specs.Fold.{Folding}
 use Rattle.folding.specs.Call.{Report, wrote, reportOf, storedAfter, FoldIs}
 use Rattle.folding.specs.declared.Shortened.{Shortened}
 use Rattle.folding.specs.declared.Shortened.the-variants.{Bytes, Refused}

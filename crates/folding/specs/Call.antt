@@ -15,7 +15,7 @@ use Rattle.forms.specs.Held.{ScanIs}
 use Rattle.forms.specs.declared.Scanned.{Scanned}
 use Rattle.forms.specs.declared.Scanned.the-variants.{Table, Denied}
 use Rattle.postfix.specs.Postfix.{bytesOf, width}
-use Rattle.folding.specs.Fold.{Folding, folded, fold}
+use Rattle.replacing.specs.Fold.{Folding, folded, fold}
 use Rattle.folding.specs.declared.Shortened.{Shortened}
 use Rattle.folding.specs.declared.Shortened.the-variants.{Bytes, Refused}
 

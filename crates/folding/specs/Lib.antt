@@ -1,3 +1,1 @@
-pub mod Fold
-pub mod Walk
 pub mod Call

@@ -13,11 +13,12 @@ use Rattle.refusals.specs.declared.Refusal.{Refusal}
 use Rattle.refusals.specs.declared.Refusal.the-variants.{OutputShort}
 use Rattle.slices.specs.Splice.{Wrote}
 use Rattle.tables.specs.Table.{columnCount}
-use Rattle.heads.specs.Heads.{Head, joined, sideOf, headOf, headStop, head, ifRoom, wrote, HeadIs}
-use Rattle.heads.specs.Side.{ahead, handedOn, SideAsks, SideIs}
-use Rattle.heads.specs.declared.Joined.{Joined}
-use Rattle.heads.specs.declared.Joined.the-variants.{Words, Refused}
-use Rattle.heads.proofs.Joining.{ahead-none}
+use Rattle.naming.specs.OneSide.{Head, joined, sideOf}
+use Rattle.heads.specs.Heads.{headOf, headStop, head, ifRoom, wrote, HeadIs}
+use Rattle.naming.specs.Side.{ahead, handedOn, SideAsks, SideIs}
+use Rattle.naming.specs.declared.Joined.{Joined}
+use Rattle.naming.specs.declared.Joined.the-variants.{Words, Refused}
+use Rattle.naming.proofs.Joining.{ahead-none}
 use Rattle.heads.proofs.Rising.{columns-rise}
 use Rattle.heads.proofs.Stopping.{Passed, passed}
 

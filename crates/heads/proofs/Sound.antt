@@ -22,7 +22,8 @@ use Rattle.rules.proofs.Nullable.{kind-kept, bound-kept}
 use Rattle.columns.specs.Column.{nameStop, columnStop, columnsStop}
 use Rattle.columns.proofs.Stops.{name-never}
 use Rattle.tables.specs.Table.{columnCount, isTable}
-use Rattle.heads.specs.Heads.{Head, joined, Named, named, tooLong, prefixed, appended, nameOf, ruleOf, behind, ofName, sideOf, headOf, headStop, head, ifRoom, unlessStopped}
+use Rattle.naming.specs.OneSide.{Head, joined, Named, named, tooLong, prefixed, appended, nameOf, ruleOf, behind, ofName, sideOf}
+use Rattle.heads.specs.Heads.{headOf, headStop, head, ifRoom, unlessStopped}
 use Rattle.heads.proofs.Rising.{no-stop, name-rises, columns-rise}
 use Rattle.heads.proofs.Stopping.{Passed, passed}
 

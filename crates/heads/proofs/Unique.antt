@@ -6,9 +6,10 @@ use native.Mathlib.Omega.{arith}
 use lib.ListN.{length, take}
 use Rattle.refusals.specs.Stop.{Stop, never, stop, stopOf}
 use Rattle.refusals.proofs.Unique.{one-refusal}
-use Rattle.heads.specs.Heads.{Head, Report, wrote, reportOf, storedAfter, HeadIs}
-use Rattle.heads.specs.declared.Joined.{Joined}
-use Rattle.heads.specs.declared.Joined.the-variants.{Words, Refused}
+use Rattle.naming.specs.OneSide.{Head}
+use Rattle.heads.specs.Heads.{Report, wrote, reportOf, storedAfter, HeadIs}
+use Rattle.naming.specs.declared.Joined.{Joined}
+use Rattle.naming.specs.declared.Joined.the-variants.{Words, Refused}
 
 -- the stop of a report
 stopped : Report → Stop

@@ -25,8 +25,10 @@ use Rattle.forms.specs.declared.Scanned.{Scanned}
 use Rattle.forms.specs.declared.Scanned.the-variants.{Table, Denied}
 use Rattle.puts.specs.Put.{Puts}
 use Rattle.puts.proofs.Putting.{put-splice}
-use Rattle.printing.specs.Print.{printed, textsStop, printedAll, printStop, PrintIs}
-use Rattle.printing.specs.Walk.{beforeStop, PreparedIs, PrintAsks}
+use Rattle.spelling.specs.Spell.{printed}
+use Rattle.printing.specs.Print.{textsStop, printedAll, printStop, PrintIs}
+use Rattle.spelling.specs.Walk.{PrintAsks}
+use Rattle.printing.specs.Prepare.{beforeStop, PreparedIs}
 
 -- ---- before the output
 

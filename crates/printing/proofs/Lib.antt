@@ -1,6 +1,4 @@
 -- What the proofs of several functions use, here and above.
-pub mod Leaves
-pub mod Walking
 pub mod Texts
 pub mod Calling
 pub mod Unique

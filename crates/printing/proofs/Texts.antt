@@ -16,9 +16,9 @@ use Rattle.nodes.proofs.Bodies.{body-text}
 use Rattle.forms.specs.Form.{tree, refusal, Move, go, follow, parse, parsed}
 use Rattle.postfix.proofs.Numbers.{Small, two-small, four-small}
 use Rattle.postfix.proofs.Parsing.{node, parse-more, parse-full, Went, Became, put, node-went}
-use Rattle.display.specs.Display.{hasHigh}
+use Rattle.quoting.specs.Quote.{hasHigh}
 use Rattle.printing.specs.Print.{isUnprintable, textsStop}
-use Rattle.printing.specs.Walk.{TextInside}
+use Rattle.printing.specs.Prepare.{TextInside}
 
 -- ---- one node
 

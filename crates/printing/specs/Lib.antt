@@ -1,2 +1,2 @@
 pub mod Print
-pub mod Walk
+pub mod Prepare

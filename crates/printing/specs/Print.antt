@@ -1,7 +1,7 @@
--- The call `print`: a named condition by precedence, format_with_precedence of expr.rs (document 01, "Printing"). Assumes nothing: these are definitions.
+-- The call `print`: a named condition by precedence (document 01, "Printing"). Assumes nothing: these are definitions.
 use Prim.Native.Nat.{ℕ, zero, suc, _+_}
-use mathlib.Core.Bool.{Bool, true, false, cond}
-use mathlib.Core.List.{List, [], _∷_, _++_}
+use mathlib.Core.Bool.{Bool, cond}
+use mathlib.Core.List.{List, [], _∷_}
 use lib.ListN.{length, getD}
 use lib.Dec.{ltb, eqb}
 use Rattle.refusals.specs.Stop.{Stop, never, stopIf, orElse, firstOf}
@@ -10,32 +10,13 @@ use Rattle.slices.specs.Bytes.{both}
 use Rattle.writing.specs.Writing.{WrittenIs}
 use Rattle.writing.specs.declared.Written.{Written}
 use Rattle.checks.specs.Check.{roomStop}
-use Rattle.conditions.specs.Ast.{Ast, Atom, leaf, unary, binary, literal, column, named, mapTree}
+use Rattle.conditions.specs.Ast.{mapTree}
 use Rattle.conditions.specs.Table.{leafOf}
 use Rattle.nodes.specs.Kind.{bodyOf, two, four}
 use Rattle.nodes.specs.declared.Allowed.the-variants.{Named}
 use Rattle.forms.specs.Form.{Parsed, tree, refusal, parsed, formStop}
-use Rattle.display.specs.Display.{display, hasHigh}
-use Rattle.signs.specs.Sign.{precedence, spaced, prefix}
-
--- parentheses (40, 41) where a test holds
-abbrev pub parenthesised : Bool → List ℕ → List ℕ
-parenthesised true s = 40 ∷ (s ++ (41 ∷ []))
-parenthesised false s = s
-
--- a literal as its value is displayed, a column by its name (a named condition has no numbers)
-abbrev pub printedAtom : Atom → List ℕ
-printedAtom (literal v) = display v
-printedAtom (column c) = []
-printedAtom (named name) = name
-
--- the printed text of a tree of which a precedence is asked: the left operand is asked the operator's, the right one more, parentheses
--- when the own is below the asked; unary operators ask 10 and get none
-unfoldable pub printed : ℕ → Ast → List ℕ
-printed asked (leaf x) = printedAtom x
-printed asked (unary op a) = prefix op ++ printed 10 a
-printed asked (binary op a b) =
-    parenthesised (ltb (precedence op) asked) (printed (precedence op) a ++ (spaced op ++ printed (precedence op + 1) b))
+use Rattle.quoting.specs.Quote.{hasHigh}
+use Rattle.spelling.specs.Spell.{printed}
 
 -- a text literal with a byte of 128 or more, at an offset of the condition's bytes
 abbrev pub isUnprintable : List ℕ → List ℕ → ℕ → Bool

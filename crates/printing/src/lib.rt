@@ -1,87 +1,18 @@
 // The call `print`: a named condition by precedence, Ast::format_with_precedence of expr.rs.
 ghost use mathlib.Core.Path.{_≡_};
-ghost use Prim.Native.Nat.{ℕ, _+_, _<_, _^_};
+ghost use Prim.Native.Nat.{ℕ, _+_, _<_};
 ghost use lib.ListN.{length, take};
 ghost use Rattle.refusals.specs.Stop.{checkedOf};
-ghost use Rattle.conditions.specs.Ast.{Tree, mapTree};
-ghost use Rattle.conditions.specs.Table.{leafOf};
+ghost use Rattle.conditions.specs.Ast.{Tree};
 ghost use Rattle.nodes.specs.declared.Allowed.the-variants.{Named};
 ghost use Rattle.forms.specs.Form.{tree, parsed};
-ghost use Rattle.forms.specs.Held.{LeafHeld};
-ghost use Rattle.puts.specs.Put.{Puts};
-ghost use Rattle.printing.specs.Print.{printedAtom, printed, isUnprintable, textsStop, PrintIs};
-ghost use Rattle.printing.specs.Walk.{PrintAsks, OperatorAsks, TextInside, PreparedIs};
-use conditions::Node;
+ghost use Rattle.printing.specs.Print.{isUnprintable, textsStop, PrintIs};
+ghost use Rattle.printing.specs.Prepare.{TextInside, PreparedIs};
 use forms::Scanned;
 use nodes::Allowed;
 use refusals::Checked;
 use refusals::Refusal;
 use writing::Written;
-
-// A leaf: a column by its name, or a literal as its value is displayed. (A named condition has no column numbers.)
-fn put_leaf(word: u64, stored: &[u8], out: &mut [u8], at: usize) -> usize
-    requires { ⌜ LeafHeld (length (now stored)) word × (at + 400000 < 2 ^ 64) ⌝ }
-    ensures { λ r. ⌜ Puts (now (out .entry)) at (printedAtom (leafOf (now (stored .entry)) word)) r (now (out .exit)) ⌝ }
-{
-    match word / 0x100_0000_0000_0000 {
-        3 => {
-            let start = (word / 65536 % 0x1_0000_0000) as usize;
-            let end = start + (word % 65536) as usize;
-            puts::put_bytes(&stored[start..end], out, at)
-        }
-        4 => at,
-        _ => display::put_value(word, stored, out, at),
-    }
-}
-
-// The tree whose last node stands at k, of which a precedence is asked, by recursion with falling depth.
-fn print_node(
-    nodes: &[u64],
-    k: usize,
-    depth: usize,
-    asked: u64,
-    stored: &[u8],
-    out: &mut [u8],
-    at: usize,
-) -> usize
-    requires { ⌜ ((t : Tree ℕ) × PrintAsks (now stored) (now nodes) k depth at t) ⌝ }
-    ensures { λ r. ⌜ ((t : Tree ℕ) → PrintAsks (now (stored .entry)) (now (nodes .entry)) k depth at t →
-        Puts (now (out .entry)) at (printed asked (mapTree (leafOf (now (stored .entry))) t)) r (now (out .exit))) ⌝ }
-{
-    match conditions::node_of(nodes[k]) {
-        Node::Leaf(word) => put_leaf(word, stored, out, at),
-        Node::One(op) => {
-            let next = signs::put_prefix(op, out, at);
-            print_node(nodes, k - 1, depth - 1, 10, stored, out, next)
-        }
-        Node::Two(op, l) => print_operator(nodes, op, l, k, depth, asked, stored, out, at),
-    }
-}
-
-// A two-sided operator between its operands: the left one is asked its precedence, the right one more; parentheses when its own is below the asked.
-fn print_operator(
-    nodes: &[u64],
-    op: u64,
-    l: usize,
-    k: usize,
-    depth: usize,
-    asked: u64,
-    stored: &[u8],
-    out: &mut [u8],
-    at: usize,
-) -> usize
-    requires { ⌜ ((t : Tree ℕ) × OperatorAsks (now stored) (now nodes) op l k depth at t) ⌝ }
-    ensures { λ r. ⌜ ((t : Tree ℕ) → OperatorAsks (now (stored .entry)) (now (nodes .entry)) op l k depth at t →
-        Puts (now (out .entry)) at (printed asked (mapTree (leafOf (now (stored .entry))) t)) r (now (out .exit))) ⌝ }
-{
-    let own = signs::precedence(op);
-    let around = own < asked;
-    let from = puts::put_if(around, b'(', out, at);
-    let middle = print_node(nodes, l, depth - 1, own, stored, out, from);
-    let next = signs::put_sign(op, out, middle);
-    let end = print_node(nodes, k - 1, depth - 1, own + 1, stored, out, next);
-    puts::put_if(around, b')', out, end)
-}
 
 // Whether the node at an offset is a text literal with a byte of 128 or more.
 fn is_unprintable(b: &[u8], at: usize, stored: &[u8]) -> bool
@@ -94,7 +25,7 @@ fn is_unprintable(b: &[u8], at: usize, stored: &[u8]) -> bool
     let word = nodes::leaf_word(b, at, 2);
     let start = (word / 65536 % 0x1_0000_0000) as usize;
     let end = start + (word % 65536) as usize;
-    display::has_high(&stored[start..end])
+    quoting::has_high(&stored[start..end])
 }
 
 // Refusal 15 over the literals of a condition whose form was accepted.
@@ -142,11 +73,11 @@ pub fn print(condition: &[u8], text: &[u8], used: usize, out: &mut [u8]) -> Writ
         Scanned::Denied(r) => Written::Refused(r),
         Scanned::Table(n) => {
             let mut none = [0u8; 0];
-            let needed = print_node(&table, n - 1, 16, 0, &text[..used], &mut none, 0);
+            let needed = spelling::print_node(&table, n - 1, 16, 0, &text[..used], &mut none, 0);
             if out.len() < needed {
                 return Written::Refused(Refusal::OutputShort(needed));
             }
-            Written::Count(print_node(&table, n - 1, 16, 0, &text[..used], out, 0))
+            Written::Count(spelling::print_node(&table, n - 1, 16, 0, &text[..used], out, 0))
         }
     }
 }

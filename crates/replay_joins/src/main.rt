@@ -2,7 +2,7 @@
 ghost use mathlib.Core.Path.{_≡_};
 ghost use Prim.Native.Nat.{_+_, _≤_};
 ghost use lib.ListN.{length};
-use heads::Joined;
+use naming::Joined;
 use refusals::Refusal;
 use replay::Field;
 use replay::Text;

@@ -24,7 +24,7 @@ fn is_high(word: u64, stored: &[u8]) -> bool
     }
     let start = (word / 65536 % 0x1_0000_0000) as usize;
     let end = start + (word % 65536) as usize;
-    display::has_high(&stored[start..end])
+    quoting::has_high(&stored[start..end])
 }
 
 // One value as it is printed, or 15, then 9.

@@ -8,7 +8,7 @@ use lib.ListN.{length, take}
 use Rattle.writing.specs.declared.Written.{Written}
 use Rattle.folding.specs.Call as folding
 use Rattle.folding.specs.Call.{FoldIs}
-use Rattle.folding.specs.Fold.{Folding}
+use Rattle.replacing.specs.Fold.{Folding}
 use Rattle.heads.specs.Heads as heads
 use Rattle.heads.specs.Heads.{HeadIs}
 use Rattle.evaluation.specs.Evaluation.{Says, evaluation}

@@ -15,7 +15,7 @@ use Rattle.binding.specs.Bind.{BindIs}
 use Rattle.conjunction.specs.With.{WithIs}
 use Rattle.printing.specs.Print.{PrintIs}
 use Rattle.heads.specs.Heads.{HeadIs, head}
-use Rattle.heads.specs.declared.Joined.{Joined}
+use Rattle.naming.specs.declared.Joined.{Joined}
 use Rattle.selecting.specs.Select.{SelectIs, DeleteIs}
 use Rattle.updating.specs.Update.{UpdateIs}
 use Rattle.joins.specs.Join.{InnerJoinIs, LeftJoinIs}

@@ -25,9 +25,10 @@ use Rattle.marking.specs.declared.Marked.the-variants.{Rows}
 use Rattle.marking.proofs.Lists.{kept-same, mark-at, true-and-other}
 use Rattle.projecting.specs.Project.{listStop, hasMark, markedWords}
 use Rattle.projecting.proofs.Listing.{empty-list}
-use Rattle.selecting.specs.Select.{rowCount, tableStop, shortStop, selected, SelectIs, remaining, DeleteIs}
-use Rattle.selecting.specs.Kept.{KeptAsks}
-use Rattle.selecting.proofs.Passing.{Passed}
+use Rattle.keeping.specs.Table.{rowCount, tableStop, shortStop}
+use Rattle.selecting.specs.Select.{selected, SelectIs, remaining, DeleteIs}
+use Rattle.keeping.specs.Kept.{KeptAsks}
+use Rattle.keeping.proofs.Passing.{Passed}
 
 -- ---- stops in a row
 

@@ -1,37 +1,19 @@
 -- The calls `select` and `delete` (document 01, "Row calls"; Select::exec and Delete::exec of query.rs). Assumes nothing: these are definitions.
-use Prim.Native.Nat.{ℕ, _+_, _*_, _/_}
-use mathlib.Core.Bool.{Bool, true, false, cond}
+use Prim.Native.Nat.{ℕ}
+use mathlib.Core.Bool.{true}
 use mathlib.Core.List.{List, [], _∷_}
-use lib.ListN.{length, take}
-use lib.Dec.{ltb, leb}
-use Rattle.refusals.specs.Stop.{Stop, stopIf, firstOf}
-use Rattle.slices.specs.Bytes.{both}
+use lib.ListN.{length}
+use lib.Dec.{leb}
+use Rattle.refusals.specs.Stop.{Stop, firstOf}
 use Rattle.writing.specs.Writing.{WrittenIs}
 use Rattle.writing.specs.declared.Written.{Written}
-use Rattle.checks.specs.Check.{roomStop}
 use Rattle.operators.specs.declared.Rules.{Rules}
-use Rattle.tables.specs.Table.{columnCount, isTable, areRows, countStop, wordsStop}
-use Rattle.testing.specs.Test.{conditionStop, roomFor}
+use Rattle.tables.specs.Table.{columnCount}
+use Rattle.testing.specs.Test.{conditionStop}
 use Rattle.marking.specs.RowList.{Test, trueRows, otherRows, refusedFrom, wordsOf}
 use Rattle.marking.specs.Marks.{part, testOf}
 use Rattle.projecting.specs.Project.{projected, listStop}
-
--- how many rows a table has
-abbrev pub rowCount : List ℕ → List ℕ → ℕ
-rowCount columns rows = length rows / columnCount columns
-
--- what every call on one table looks at first: 10, counts, words
-abbrev pub tableStop : Bool → List ℕ → List ℕ → List ℕ → ℕ → ℕ → Stop
-tableStop counts b columns rows size used =
-    firstOf
-    (roomStop (roomFor b) size used
-    ∷ countStop (both (both (isTable columns) (areRows (columnCount columns) rows)) counts)
-    ∷ wordsStop used (columns ∷ [] ∷ []) (rows ∷ [] ∷ [])
-    ∷ [])
-
--- 9 with the words that the whole result takes
-abbrev pub shortStop : ℕ → ℕ → Stop
-shortStop output needed = stopIf (ltb output needed) 9 needed
+use Rattle.keeping.specs.Table.{rowCount, tableStop, shortStop}
 
 -- the words that select lists: the true rows in order, then projected
 abbrev pub selected : Test → List ℕ → List ℕ → List ℕ → List ℕ

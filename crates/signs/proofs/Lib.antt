@@ -1,2 +1,3 @@
 -- What other crates use.
 pub mod Lengths
+mod Placing

@@ -37,3 +37,7 @@ spaced op = 32 ∷ (sign op ++ (32 ∷ []))
 -- unary `-`, `~`, `NOT `
 unfoldable pub prefix : ℕ → List ℕ
 prefix op = cond (eqb op 16) (45 ∷ []) (cond (eqb op 17) (126 ∷ []) (78 ∷ 79 ∷ 84 ∷ 32 ∷ []))
+
+-- every sign between spaces, in the order of the kinds: ` = != < <= > >= + - * / & | ^ << >> AND OR `
+unfoldable pub signs : List ℕ
+signs = 32 ∷ 61 ∷ 32 ∷ 33 ∷ 61 ∷ 32 ∷ 60 ∷ 32 ∷ 60 ∷ 61 ∷ 32 ∷ 62 ∷ 32 ∷ 62 ∷ 61 ∷ 32 ∷ 43 ∷ 32 ∷ 45 ∷ 32 ∷ 42 ∷ 32 ∷ 47 ∷ 32 ∷ 38 ∷ 32 ∷ 124 ∷ 32 ∷ 94 ∷ 32 ∷ 60 ∷ 60 ∷ 32 ∷ 62 ∷ 62 ∷ 32 ∷ 65 ∷ 78 ∷ 68 ∷ 32 ∷ 79 ∷ 82 ∷ 32 ∷ []

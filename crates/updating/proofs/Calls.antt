@@ -21,12 +21,13 @@ use Rattle.marking.specs.Marks.{part}
 use Rattle.marking.specs.declared.Marked.{Marked}
 use Rattle.marking.specs.declared.Marked.the-variants.{Rows}
 use Rattle.marking.proofs.Lists.{mark-at}
-use Rattle.selecting.specs.Select.{shortStop}
+use Rattle.keeping.specs.Table.{shortStop}
 use Rattle.selecting.proofs.Calls.{Question, widthOf, countOf, testFor, TableStop, PassedBy, MarkedBy, first-stops, written-as, refused-rows, says, passed-rows}
-use Rattle.updating.specs.Update.{areSets, setsStop, applied, updated, UpdateIs}
-use Rattle.updating.specs.Asked.{allWords, AllAsked}
-use Rattle.updating.proofs.Setting.{sets-within}
-use Rattle.updating.proofs.Rows.{all-same}
+use Rattle.setting.specs.Sets.{areSets, setsStop, applied}
+use Rattle.updating.specs.Update.{updated, UpdateIs}
+use Rattle.setting.specs.Asked.{allWords, AllAsked}
+use Rattle.setting.proofs.Setting.{sets-within}
+use Rattle.setting.proofs.Rows.{all-same}
 
 -- what the call is to answer and to write; its list is the sets
 abbrev pub Updates : Question → List ℕ → Written → Type 0

@@ -1,5 +1,3 @@
 -- What the proofs of several functions use, here and above.
-pub mod Setting
-pub mod Rows
 pub mod Calls
 pub mod Unique

@@ -1,90 +1,16 @@
 // The call update.
 ghost use mathlib.Core.Path.{_≡_};
-ghost use mathlib.Core.List.{List};
-ghost use Prim.Native.Nat.{ℕ, _+_, _*_, _≤_};
+ghost use Prim.Native.Nat.{_+_, _*_, _≤_};
 ghost use lib.ListN.{length, take};
 ghost use Rattle.slices.specs.Splice.{Wrote};
-ghost use Rattle.refusals.specs.Stop.{checkedOf};
 ghost use Rattle.writing.specs.Writing.{WrittenIs};
-ghost use Rattle.tables.specs.Table.{columnCount};
-ghost use Rattle.selecting.specs.Select.{shortStop};
-ghost use Rattle.updating.specs.Update.{areSets, setsStop, applied, UpdateIs};
-ghost use Rattle.updating.specs.Asked.{setStop, Within, rowAfter, allWords, AllAsked};
-use cells::ValueRef;
+ghost use Rattle.keeping.specs.Table.{shortStop};
+ghost use Rattle.updating.specs.Update.{UpdateIs};
+ghost use Rattle.setting.specs.Asked.{allWords, AllAsked};
 use marking::Marked;
 use refusals::Checked;
 use refusals::Refusal;
 use writing::Written;
-
-// Whether words are a column number and a cell a set, at most 64 sets.
-fn are_sets(sets: &[u64]) -> bool
-    ensures { λ r. ⌜ r ≡ areSets (now (sets .entry)) ⌝ }
-{
-    if sets.len() % 2 != 0 {
-        return false;
-    }
-    sets.len() / 2 <= 64
-}
-
-// What is wrong with one set, whatever text the mark bounds.
-fn check_set(columns: &[u64], column: u64, cell: u64, used: usize, place: usize) -> Checked
-    requires { ⌜ length (now columns) ≡ 2 * columnCount (now columns) ⌝ }
-    ensures { λ r. ⌜ ((stored : List ℕ) → length stored ≡ used → checkedOf r ≡ setStop used stored (now (columns .entry)) place column cell) ⌝ }
-{
-    if (columns.len() / 2) as u64 <= column {
-        return Checked::Refused(Refusal::NoSuchColumn(place));
-    }
-    let checked = cells::check_cell(cell, used, place);
-    let Checked::Sound = checked else {
-        return checked;
-    };
-    let rule = columns[2 * column as usize + 1];
-    if !rules::is_valid_value(rule, ValueRef::from_word(cell)) {
-        return Checked::Refused(Refusal::NotValid(place));
-    }
-    Checked::Sound
-}
-
-// What is wrong with the sets in order.
-fn check_sets(columns: &[u64], sets: &[u64], used: usize) -> Checked
-    requires { ⌜ length (now columns) ≡ 2 * columnCount (now columns) ⌝ }
-    ensures { λ r. ⌜ ((stored : List ℕ) → length stored ≡ used → checkedOf r ≡ setsStop used stored (now (columns .entry)) 0 (now (sets .entry))) ⌝ }
-{
-    let mut k: usize = 0;
-    while k < sets.len() / 2 {
-        let checked = check_set(columns, sets[2 * k], sets[2 * k + 1], used, k);
-        let Checked::Sound = checked else {
-            return checked;
-        };
-        k += 1;
-    }
-    Checked::Sound
-}
-
-// Applies the sets to a row in order.
-fn apply_sets(sets: &[u64], row: &mut [u64])
-    requires { ⌜ Within (length (now row)) (now sets) ⌝ }
-    ensures { λ r. ⌜ now (row .exit) ≡ applied (now (sets .entry)) (now (row .entry)) ⌝ }
-{
-    let mut k: usize = 0;
-    while k < sets.len() / 2 {
-        row[sets[2 * k] as usize] = sets[2 * k + 1];
-        k += 1;
-    }
-}
-
-// Writes a row from the place at on, with the sets applied where its mark is 1, and returns the place after it.
-fn write_row(row: &[u64], sets: &[u64], mark: u64, out: &mut [u64], at: usize) -> usize
-    requires { ⌜ Within (length (now row)) (now sets) × (at + length (now row) ≤ length (now out)) ⌝ }
-    ensures { λ r. ⌜ Wrote (now (out .entry)) at (rowAfter (now (sets .entry)) mark (now (row .entry))) r (now (out .exit)) ⌝ }
-{
-    let end = slices::copy_words(row, out, at);
-    if mark != 1 {
-        return end;
-    }
-    apply_sets(sets, &mut out[at..end]);
-    end
-}
 
 // Writes all rows in order from the start on, each by its mark, and returns the place after them.
 fn write_updated(
@@ -102,7 +28,7 @@ fn write_updated(
     let mut i: usize = 0;
     while i < n {
         let start = i * width;
-        at = write_row(&rows[start..start + width], sets, marks[i], out, at);
+        at = setting::write_row(&rows[start..start + width], sets, marks[i], out, at);
         i += 1;
     }
     at
@@ -143,11 +69,18 @@ pub fn update(
         (take used (now (text .entry))) (length (now (text .entry))) used (now (out .entry)) (now (out .exit)) r ⌝ }
     ensures { λ r. ⌜ (take used (now (text .exit)) ≡ take used (now (text .entry))) × (length (now (condition .entry)) ≡ 0 → now (text .exit) ≡ now (text .entry)) ⌝ }
 {
-    let table = selecting::check_table(columns, rows, are_sets(sets), condition, text.len(), used);
+    let table = keeping::check_table(
+        columns,
+        rows,
+        setting::are_sets(sets),
+        condition,
+        text.len(),
+        used,
+    );
     if let Checked::Refused(r) = table {
         return Written::Refused(r);
     }
-    let wrong = check_sets(columns, sets, used);
+    let wrong = setting::check_sets(columns, sets, used);
     if let Checked::Refused(r) = wrong {
         return Written::Refused(r);
     }

@@ -31,7 +31,7 @@ use borrow.Fn.PlainCycle.{Measures, is, falls, and}
 use Rattle.binding.proofs.bind_node.Reads as bind-node
 use Rattle.binding.proofs.bind_node.Kinds as bind-node-kinds
 use Rattle.binding.proofs.+bind_node.Lts-bind_node as bind-node-lts
-use Rattle.binding.proofs.bind_leaf.Reads as bind-leaf-reads
+use Rattle.numbering.proofs.bind_leaf.Reads as bind-leaf-reads
 use Rattle.conditions.proofs.node_of.Reads as node-of-reads
 use Rattle.binding.proofs.+bind_node.{statement}
 use Rattle.binding.proofs.+bind_node.Tie.{close}

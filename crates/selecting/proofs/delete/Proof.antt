@@ -8,7 +8,7 @@ use native.Mathlib.Omega.{arith}
 use lib.ListN.{length-replicate}
 use Rattle.refusals.specs.Stop.{never}
 use Rattle.refusals.proofs.First.{told-refused, told-sound}
-use Rattle.selecting.proofs.Passing.{table-passed, passed-asks}
+use Rattle.keeping.proofs.Passing.{table-passed, passed-asks}
 use Rattle.selecting.proofs.Calls.{Question, TableStop, PassedBy, delete-table, delete-refused, delete-some, delete-asks, delete-written}
 use borrow.Author.Needs.{needs}
 use Rattle.selecting.proofs.delete.Statement.{statement}

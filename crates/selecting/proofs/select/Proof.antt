@@ -8,7 +8,7 @@ use lib.Dec.{leb}
 use Rattle.refusals.specs.Stop.{never}
 use Rattle.refusals.proofs.First.{told-refused, told-sound}
 use Rattle.projecting.specs.Project.{listStop}
-use Rattle.selecting.proofs.Passing.{table-passed, passed-asks}
+use Rattle.keeping.proofs.Passing.{table-passed, passed-asks}
 use Rattle.selecting.proofs.Calls.{Question, widthOf, TableStop, PassedBy, select-table, select-list, select-refused, select-asks, select-written}
 use borrow.Author.Needs.{needs}
 use Rattle.selecting.proofs.select.Statement.{statement}

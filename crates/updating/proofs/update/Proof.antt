@@ -6,9 +6,9 @@ use native.Mathlib.Omega.{arith}
 use lib.ListN.{length-replicate}
 use Rattle.refusals.specs.Stop.{never}
 use Rattle.refusals.proofs.First.{told-refused, told-sound}
-use Rattle.selecting.proofs.Passing.{table-passed, passed-asks}
+use Rattle.keeping.proofs.Passing.{table-passed, passed-asks}
 use Rattle.selecting.proofs.Calls.{Question, TableStop, PassedBy}
-use Rattle.updating.specs.Update.{areSets}
+use Rattle.setting.specs.Sets.{areSets}
 use Rattle.updating.proofs.Calls.{TableFor, SetsFor, stored-length, update-table, update-sets, update-refused, update-asks, update-written}
 use borrow.Author.Needs.{needs}
 use Rattle.updating.proofs.update.Statement.{statement}

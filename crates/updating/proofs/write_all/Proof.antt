@@ -1,5 +1,5 @@
 -- `updating::write_all` meets its contract. Assumes nothing.
-use Rattle.updating.proofs.Rows.{all-short, all-written}
+use Rattle.setting.proofs.Rows.{all-short, all-written}
 use borrow.Author.Needs.{needs}
 use Rattle.updating.proofs.write_all.Statement.{statement}
 use Rattle.updating.proofs.write_all.Tie as tie

@@ -7,8 +7,8 @@ use lib.ListN.{length, getD}
 use Rattle.marking.specs.Marks.{part}
 use Rattle.marking.proofs.Marking.{row-inside}
 use Rattle.projecting.proofs.Turns.{Writing, writing-start, writing-end}
-use Rattle.updating.specs.Asked.{rowAfter}
-use Rattle.updating.proofs.Rows.{all-room, turn-asks, turn-wrote}
+use Rattle.setting.specs.Asked.{rowAfter}
+use Rattle.setting.proofs.Rows.{all-room, turn-asks, turn-wrote}
 use borrow.Author.Needs.{needs}
 use Rattle.updating.proofs.write_updated.Statement.{statement}
 use Rattle.updating.proofs.write_updated.Tie as tie

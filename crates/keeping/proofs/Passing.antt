@@ -1,0 +1,125 @@
+-- What every call on one table looks at first: which check stops it, and what is known where none does. Assumes nothing.
+use mathlib.Core.Path.{_≡_, refl, sym, ap, _∙_}
+use mathlib.Core.Bool.{Bool, true, false}
+use mathlib.Core.List.{List, [], _∷_}
+use Prim.Native.Nat.{ℕ, _*_, _/_, _%_, _≤_}
+use native.Mathlib.Omega.{arith}
+use native.Mathlib.Nat.{div-add-mod'}
+use lib.ListN.{length}
+use lib.Dec.{eqb}
+use borrow.Author.Tests.{eqb-true, leb-true, le-leb}
+use Rattle.refusals.specs.Stop.{Stop, never, stop, checkedOf, orElse}
+use Rattle.refusals.specs.declared.Refusal.{Refusal}
+use Rattle.refusals.specs.declared.Checked.{Checked}
+use Rattle.refusals.specs.declared.Checked.the-variants.{Refused}
+use Rattle.refusals.proofs.First.{told-refused, never-both}
+use Rattle.slices.specs.Bytes.{both}
+use Rattle.checks.specs.Check.{roomStop, cellsStop}
+use Rattle.evaluation.specs.Evaluation.{isRowLength}
+use Rattle.tables.specs.Table.{columnCount, isTable, areRows, countStop, wordsStop}
+use Rattle.tables.proofs.Words.{Counted, table-counted, words-sound}
+use Rattle.testing.specs.Test.{roomFor}
+use Rattle.marking.specs.Whole.{TableAsks}
+use Rattle.marking.proofs.Lists.{cells-anywhere}
+use Rattle.keeping.specs.Table.{rowCount, tableStop}
+
+-- ---- which check stops it
+
+-- the room that a condition needs
+pub no-room : (b : List ℕ) → length b ≡ 0 → 0 ≡ roomFor b
+no-room [] e = refl
+no-room (x ∷ b) e = absurd (let z : ⊥ = omega arith in z)
+
+pub some-room : (b : List ℕ) → (length b ≡ 0 → ⊥) → 32768 ≡ roomFor b
+some-room [] n = absurd (n refl)
+some-room (x ∷ b) n = refl
+
+-- nothing behind a stop
+last : (s : Stop) → s ≡ orElse s never
+last never = refl
+last (stop number place) = refl
+
+module _ (counts : Bool) (b columns rows : List ℕ) (size used : ℕ) where
+  -- each check in turn
+  pub room-stops : (a : Checked) (r : Refusal) → a ≡ Refused r → checkedOf a ≡ roomStop (roomFor b) size used → checkedOf a ≡ tableStop counts b columns rows size used
+  room-stops a r e f =
+      ap checkedOf e ∙ ap (λ s. orElse s (orElse (countStop (both (both (isTable columns) (areRows (columnCount columns) rows)) counts)) (orElse (wordsStop used (columns ∷ [] ∷ []) (rows ∷ [] ∷ [])) never)))
+      (sym (told-refused a r _ e f))
+
+  module _ (R : roomStop (roomFor b) size used ≡ never) where
+    pub table-stops : isTable columns ≡ false → stop 8 0 ≡ tableStop counts b columns rows size used
+    table-stops e = rw (R, e)
+
+    module _ (T : isTable columns ≡ true) where
+      pub rows-stop : areRows (columnCount columns) rows ≡ false → stop 8 0 ≡ tableStop counts b columns rows size used
+      rows-stop e = rw (R, T, e)
+
+      module _ (W : areRows (columnCount columns) rows ≡ true) where
+        pub counts-stop : counts ≡ false → stop 8 0 ≡ tableStop counts b columns rows size used
+        counts-stop e = rw (R, T, W, e)
+
+        pub words-stop : counts ≡ true → wordsStop used (columns ∷ [] ∷ []) (rows ∷ [] ∷ []) ≡ tableStop counts b columns rows size used
+        words-stop e = rw (R, T, W, e) (last (wordsStop used (columns ∷ [] ∷ []) (rows ∷ [] ∷ [])))
+
+-- ---- where none does
+
+-- what tests that hold say
+both-true : (x y : Bool) → both x y ≡ true → (x ≡ true) × (y ≡ true)
+both-true true y e = (refl, e)
+both-true false y e = absurd (let z : _≡_ {A = ℕ} 0 1 = cc in omega arith)
+
+count-right : (x : Bool) → countStop x ≡ never → x ≡ true
+count-right true e = refl
+count-right false e = absurd (let z : _≡_ {A = ℕ} 0 1 = cc in omega arith)
+
+-- a whole number of rows
+pub rows-whole : (width : ℕ) (rows : List ℕ) → areRows width rows ≡ true → (length rows ≡ length rows / width * width) × (length rows / width ≤ 4096)
+unfolding areRows
+rows-whole width rows e =
+    let h = both-true (eqb (length rows % width) 0) _ e in
+    (omega (arith, div-add-mod' (length rows) width, eqb-true (length rows % width) 0 (h .0)), leb-true (length rows / width) 4096 (h .1))
+
+-- 1 to 32 columns are a row's length
+row-wide : (width : ℕ) → 1 ≤ width → width ≤ 32 → isRowLength width ≡ true
+unfolding isRowLength
+row-wide width h k = rw (le-leb 1 width h, le-leb width 32 k)
+
+-- what is known of a table that was passed
+pub record Passed (counts : Bool) (b columns rows : List ℕ) (size used : ℕ) : Type 0 where
+  pub right : counts ≡ true
+  pub room : roomStop (roomFor b) size used ≡ never
+  pub table : Counted columns
+  pub whole : length rows ≡ rowCount columns rows * columnCount columns
+  pub few : rowCount columns rows ≤ 4096
+  pub cells : (place : ℕ) → cellsStop used place rows ≡ never
+
+-- nothing stopped it
+pub table-passed : (counts : Bool) (b columns rows : List ℕ) (size used : ℕ) → tableStop counts b columns rows size used ≡ never → Passed counts b columns rows size used
+table-passed counts b columns rows size used e =
+    let r = never-both (roomStop (roomFor b) size used) _ e in
+    let c = never-both (countStop (both (both (isTable columns) (areRows (columnCount columns) rows)) counts)) _ (r .1) in
+    let w = words-sound used columns [] rows [] (never-both (wordsStop used (columns ∷ [] ∷ []) (rows ∷ [] ∷ [])) never (c .1) .0) in
+    let n = both-true (both (isTable columns) (areRows (columnCount columns) rows)) counts (count-right _ (c .0)) in
+    let t = both-true (isTable columns) _ (n .0) in
+    let h = rows-whole (columnCount columns) rows (t .1) in
+    record {
+      right = n .1;
+      room = r .0;
+      table = table-counted columns (t .0);
+      whole = h .0;
+      few = h .1;
+      cells = λ place. cells-anywhere used _ place rows (w .2);
+    }
+
+-- its rows may be marked
+pub passed-asks : {counts : Bool} {b columns rows : List ℕ} {used : ℕ} (text marks : List ℕ) → Passed counts b columns rows (length text) used → length marks ≡ 4096
+    → TableAsks b used (rowCount columns rows) (columnCount columns) rows text marks
+passed-asks text marks P l =
+    record {
+      room = P .room;
+      wide = row-wide _ (P .table .some) (P .table .few);
+      whole = P .whole;
+      cells = P .cells;
+      few = P .few;
+      space = omega (arith, P .few);
+    }

@@ -1,0 +1,2 @@
+pub mod OneSide
+pub mod Side
