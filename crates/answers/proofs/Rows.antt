@@ -10,6 +10,7 @@ use borrow.Author.Tests.{ltb-true, leb-true, eq-eqb, ne-eqb}
 use Rattle.slices.specs.Splice.{piece}
 use Rattle.slices.specs.Bytes.{both}
 use Rattle.slices.proofs.Pieces.{piece-length}
+use Rattle.slices.proofs.Both.{both-true}
 use Rattle.tables.specs.Table.{isColumnCount, rowAt}
 use Rattle.tables.proofs.Reading.{inside}
 use Rattle.answers.specs.Row.{PartIs}
@@ -19,10 +20,6 @@ use Rattle.answers.specs.declared.Part.{Part}
 picked : (t : Bool) (l : List ℕ) → (length (cond t l []) ≡ 0 → ⊥) → (t ≡ true) × (cond t l [] ≡ l)
 picked true l n = (refl, refl)
 picked false l n = absurd (n refl)
-
-both-true : (x y : Bool) → both x y ≡ true → (x ≡ true) × (y ≡ true)
-both-true true y e = (refl, e)
-both-true false y e = absurd (let z : _≡_ {A = ℕ} 0 1 = cc in omega arith)
 
 -- a list without elements
 none : (l : List ℕ) → length l ≡ 0 → [] ≡ l

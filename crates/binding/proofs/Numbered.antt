@@ -21,7 +21,7 @@ use Rattle.postfix.specs.Postfix.{leafBytes, bytesOf, width}
 use Rattle.postfix.proofs.Leaves.{length-body}
 use Rattle.postfix.proofs.Numbers.{one-drop}
 use Rattle.postfix.proofs.Readable.{LeafReadable, Readable, word-by, leaf-readable}
-use Rattle.postfix.proofs.Reading.{one-bytes, two-bytes, past, before}
+use Rattle.postfix.proofs.Reading.{one-bytes, two-bytes, past, before, body-operator}
 use Rattle.forms.specs.Number.{isMissing, numbersStop}
 use Rattle.forms.proofs.Numbers.{numbers-end}
 use Rattle.evaluation.proofs.Narrowing.{Narrow}
@@ -29,11 +29,6 @@ use Rattle.numbering.specs.Number.{columnOf, numbered, bindLeaf, isNowhere, nam
 use Rattle.numbering.proofs.Leaves.{first-below, names-length}
 
 -- ---- refusal 4 over the bytes of a tree
-
--- an operator has no body
-body-operator : (k : ℕ) → 16 ≤ k → bodyOf k ≡ 0
-unfolding bodyOf
-body-operator k h = rw (ne-eqb k 1 (λ e. omega arith), ne-eqb k 2 (λ e. omega arith), ne-eqb k 3 (λ e. omega arith), ne-eqb k 4 (λ e. omega arith))
 
 module _ (wide used : ℕ) (b : List ℕ) where
   -- the node that stands next

@@ -11,7 +11,9 @@ use Rattle.refusals.specs.declared.Refusal.{Refusal}
 use Rattle.conditions.specs.Ast.{Tree, leaf, unary, binary, mapTree, size, height}
 use Rattle.conditions.specs.Table.{nodeOf}
 use Rattle.conditions.specs.declared.Node.the-variants.{Leaf, One, Two}
-use Rattle.forms.specs.Held.{LeafHeld, Denotes}
+use Rattle.conditions.proofs.Walk.{height-pos}
+use Rattle.forms.specs.Held.{LeafHeld}
+use Rattle.forms.proofs.Denoting.{leaf-at, one-at, two-at}
 use Rattle.postfix.specs.Postfix.{bytesOf, width}
 use Rattle.postfix.proofs.Reading.{width-size}
 use Rattle.numbering.specs.Number.{bindLeaf, namesStop}
@@ -31,44 +33,10 @@ size-map f (binary op a b) = omega (arith, size-map f a, size-map f b)
 pub bound-width : (stored columns : List ℕ) (t : Tree ℕ) → width (mapTree (bindLeaf stored columns) t) ≤ 7 * size t
 bound-width stored columns t = omega (arith, width-size (mapTree (bindLeaf stored columns) t), size-map (bindLeaf stored columns) t)
 
--- every tree has a height
-height-pos : (t : Tree ℕ) → 0 < height t
-unfolding height
-height-pos (leaf w) = omega arith
-height-pos (unary op a) = omega arith
-height-pos (binary op a b) = omega arith
-
 -- one more byte after what stands before it
 operator-list : (before after s : List ℕ) (end e op : ℕ) → e < length after → take e after ≡ take end before ++ s
     → take (e + 1) (set after e op) ≡ take end before ++ (s ++ (op ∷ []))
 operator-list before after s end e op h w = rw (add-one, take-suc-set) (ap (λ l. l ++ (op ∷ [])) w ∙ append-assoc (take end before) s (op ∷ []))
-
-module _ (used : ℕ) (nodes : List ℕ) (k : ℕ) where
-  -- the node at k tells the tree
-  at-leaf : (w : ℕ) → nodeOf (getD nodes k 0) ≡ Leaf w → (t : Tree ℕ) → Denotes used nodes k t → (t ≡ leaf w) × LeafHeld used w
-  unfolding Denotes
-  at-leaf w e (leaf x) h = let q : x ≡ w = (let p = h .0 in cc) in (ap leaf q, rw q at (h .1))
-  at-leaf w e (unary op a) h = absurd (let p = h .0 in let z : _≡_ {A = ℕ} 0 1 = cc in omega arith)
-  at-leaf w e (binary op a b) h = absurd (let p = h .1 in let z : _≡_ {A = ℕ} 0 1 = cc in omega arith)
-
-  -- an operator over one operand
-  at-one : (op : ℕ) → nodeOf (getD nodes k 0) ≡ One op → (t : Tree ℕ) → Denotes used nodes k t
-      → (a : Tree ℕ) × (t ≡ unary op a) × ((16 ≤ op) × (op < 19)) × (0 < k) × Denotes used nodes (k - 1) a
-  unfolding Denotes
-  at-one op e (leaf x) h = absurd (let p = h .0 in let z : _≡_ {A = ℕ} 0 1 = cc in omega arith)
-  at-one op e (unary o a) h = let q : o ≡ op = (let p = h .0 in cc) in (a, ap (λ x. unary x a) q, rw q at (h .1), h .2, h .3)
-  at-one op e (binary o a b) h = absurd (let p = h .1 in let z : _≡_ {A = ℕ} 0 1 = cc in omega arith)
-
-  -- an operator over two
-  at-two : (op l : ℕ) → nodeOf (getD nodes k 0) ≡ Two op l → (t : Tree ℕ) → Denotes used nodes k t
-      → (a : Tree ℕ) × (b : Tree ℕ) × (t ≡ binary op a b) × ((32 ≤ op) × (op < 50)) × (l < k) × Denotes used nodes l a × Denotes used nodes (k - 1) b
-  unfolding Denotes
-  at-two op l e (leaf x) h = absurd (let p = h .0 in let z : _≡_ {A = ℕ} 0 1 = cc in omega arith)
-  at-two op l e (unary o a) h = absurd (let p = h .0 in let z : _≡_ {A = ℕ} 0 1 = cc in omega arith)
-  at-two op l e (binary o a b) h =
-      let q : o ≡ op = (let p = h .1 in cc) in
-      let r : h .0 ≡ l = (let p = h .1 in cc) in
-      (a, b, ap (λ x. binary x a b) q, rw q at (h .2), rw r at (h .3), rw r at (h .4), h .5)
 
 module _ {stored columns nodes before : List ℕ} {k depth at end : ℕ} {t : Tree ℕ} (A : BindAsks stored columns nodes before k depth at end t) where
   -- a call may go one deeper
@@ -78,7 +46,7 @@ module _ {stored columns nodes before : List ℕ} {k depth at end : ℕ} {t : Tr
   module _ {w : ℕ} (e : nodeOf (getD nodes k 0) ≡ Leaf w) where
     -- the tree is the leaf
     is-leaf : (t ≡ leaf w) × LeafHeld (length stored) w
-    is-leaf = at-leaf (length stored) nodes k w e t (A .held)
+    is-leaf = leaf-at (length stored) k nodes t w (A .held) e
 
     -- what the leaf asks
     pub leaf-asks : LeafAsks stored columns before w at end
@@ -94,19 +62,19 @@ module _ {stored columns nodes before : List ℕ} {k depth at end : ℕ} {t : Tr
   module _ {op : ℕ} (e : nodeOf (getD nodes k 0) ≡ One op) where
     -- the operand
     abbrev only : Tree ℕ
-    only = at-one (length stored) nodes k op e t (A .held) .0
+    only = one-at (length stored) k nodes t op (A .held) e .only
 
     -- the tree is the operator over it
     one-tree : t ≡ unary op only
-    one-tree = at-one (length stored) nodes k op e t (A .held) .1
+    one-tree = one-at (length stored) k nodes t op (A .held) e .whole
 
     -- the operator is a byte
     pub one-known : op < 19
-    one-known = at-one (length stored) nodes k op e t (A .held) .2 .1
+    one-known = one-at (length stored) k nodes t op (A .held) e .known .1
 
     -- the operand stands before it
     pub one-below : 0 < k
-    one-below = at-one (length stored) nodes k op e t (A .held) .3
+    one-below = one-at (length stored) k nodes t op (A .held) e .below
 
     -- one node more
     one-size : size t ≡ size only + 1
@@ -123,7 +91,7 @@ module _ {stored columns nodes before : List ℕ} {k depth at end : ℕ} {t : Tr
     only-asks = record {
       sound = A .sound;
       few = A .few;
-      held = at-one (length stored) nodes k op e t (A .held) .4;
+      held = one-at (length stored) k nodes t op (A .held) e .denotes;
       deep = omega (arith, one-height, A .deep);
       inside = omega (arith, A .inside);
       space = omega (arith, one-size, A .space);
@@ -170,23 +138,23 @@ module _ {stored columns nodes before : List ℕ} {k depth at end : ℕ} {t : Tr
   module _ {op l : ℕ} (e : nodeOf (getD nodes k 0) ≡ Two op l) where
     -- the left operand
     abbrev left : Tree ℕ
-    left = at-two (length stored) nodes k op l e t (A .held) .0
+    left = two-at (length stored) k nodes t op l (A .held) e .left
 
     -- the right operand
     abbrev right : Tree ℕ
-    right = at-two (length stored) nodes k op l e t (A .held) .1
+    right = two-at (length stored) k nodes t op l (A .held) e .right
 
     -- the tree is the operator over them
     two-tree : t ≡ binary op left right
-    two-tree = at-two (length stored) nodes k op l e t (A .held) .2
+    two-tree = two-at (length stored) k nodes t op l (A .held) e .whole
 
     -- the operator is a byte
     pub two-known : op < 50
-    two-known = at-two (length stored) nodes k op l e t (A .held) .3 .1
+    two-known = two-at (length stored) k nodes t op l (A .held) e .known .1
 
     -- the left operand stands before it
     left-below : l < k
-    left-below = at-two (length stored) nodes k op l e t (A .held) .4
+    left-below = two-at (length stored) k nodes t op l (A .held) e .below
 
     -- so does the right one
     pub two-below : 0 < k
@@ -207,7 +175,7 @@ module _ {stored columns nodes before : List ℕ} {k depth at end : ℕ} {t : Tr
     left-ready = record {
       sound = A .sound;
       few = A .few;
-      held = at-two (length stored) nodes k op l e t (A .held) .5;
+      held = two-at (length stored) k nodes t op l (A .held) e .left-denotes;
       deep = omega (arith, two-height, A .deep);
       inside = omega (arith, left-below, A .inside);
       space = omega (arith, two-size, A .space);
@@ -238,7 +206,7 @@ module _ {stored columns nodes before : List ℕ} {k depth at end : ℕ} {t : Tr
         right-ready = record {
           sound = A .sound;
           few = A .few;
-          held = at-two (length stored) nodes k op l e t (A .held) .6;
+          held = two-at (length stored) k nodes t op l (A .held) e .right-denotes;
           deep = omega (arith, two-height, A .deep);
           inside = omega (arith, A .inside);
           space = omega (arith, first .1, bound-width stored columns left, two-size, A .space);

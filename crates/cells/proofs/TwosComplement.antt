@@ -1,28 +1,26 @@
 -- A 32-bit number as the code has it, by way of 64 bits. Assumes nothing.
 use mathlib.Core.Path.{_≡_, refl, sym, ap, subst, _∙_}
-use mathlib.Core.Bool.{Bool, true, false, cond}
-use Prim.Native.Nat.{ℕ, suc, _+_, _-_, _^_, _≤_, _<_}
+use mathlib.Core.Bool.{true, false}
+use Prim.Native.Nat.{ℕ, suc, _+_, _^_, _≤_, _<_}
 use native.Mathlib.Omega.{arith}
 use lib.IntN.{ℤ, pos, negsuc, _+ℤ_, _-ℤ_, natAbs}
 use lib.Signed.{mag, ltZ, nonNeg}
-use lib.Dec.{ltb, T}
+use lib.Dec.{T}
 use borrow.Author.Tests.{lt-ltb, le-ltb, ltb-true}
 use mir.Syntax.{w32, w64}
 use mir.Val.{Fits, SFits, toZ, ofZ}
 use mir.Facts.{toZ-ofZ, toZ-pos, sfits-widen, fits-ofZ}
-
-no : {X : Type 0} → true ≡ false → X
-no e = let z : _≡_ {A = ℕ} 0 1 = ap (λ (b : Bool). cond b 0 1) e in absurd (omega arith)
+use Rattle.refusals.proofs.Bools.{true-false}
 
 -- ---- from a number to its bits
 
 below-zero : (z : ℤ) → mag z < 2 ^ 31 → ltZ z (pos 0) ≡ true → z +ℤ pos 4294967296 ≡ pos (ofZ w32 z)
-below-zero (pos n) h e = no (sym e ∙ le-ltb n 0 (omega arith))
+below-zero (pos n) h e = true-false (sym e ∙ le-ltb n 0 (omega arith))
 below-zero (negsuc n) h e = rw (le-ltb 4294967296 (suc n) (omega arith))
 
 from-zero : (z : ℤ) → ltZ z (pos 0) ≡ false → z ≡ pos (ofZ w32 z)
 from-zero (pos n) e = refl
-from-zero (negsuc n) e = no e
+from-zero (negsuc n) e = true-false e
 
 module _ (z : ℤ) (h : SFits w32 z) where
   -- the number as the code has it, and widened

@@ -1,8 +1,7 @@
 -- From an operator's exact result to what an evaluation's answer says. Assumes nothing.
 use mathlib.Core.Path.{_≡_, refl, sym, ap, ap₂, subst, _∙_}
 use mathlib.Core.List.{List, [], _∷_, _++_}
-use mathlib.Core.Bool.{Bool, true, false}
-use Prim.Native.Nat.{ℕ, _+_, _≤_, _<_, _^_}
+use Prim.Native.Nat.{ℕ, _+_, _≤_, _^_}
 use native.Mathlib.Omega.{arith}
 use native.Mathlib.Nat.{add-zero}
 use lib.ListN.{length, take, drop}
@@ -15,7 +14,7 @@ use denote.Enum.Declared.{tagOf}
 use types.Run.{OneOf, miss}
 use Rattle.cells.specs.Cell.{WellFormed, Inside, kindOf, startOf, lengthOf, refOf, wordOf}
 use Rattle.cells.proofs.Words.{Sized, ref-back}
-use Rattle.cells.proofs.Stops.{well-word, well-inside, never-stops, stop-never, inside-more}
+use Rattle.cells.proofs.Stops.{well-word, well-inside, inside-more}
 use Rattle.cells.specs.declared.ValueRef.{ValueRef}
 use Rattle.cells.specs.declared.ValueRef.the-variants.{Null, Int, Str, Binary}
 use Rattle.values.specs.Value.{Value, null, int, str, binary, toValue, valueOf}
@@ -128,9 +127,6 @@ value-take m t (Int z) h = refl
 value-take m t (Str s n) h = ap str (piece-take m s n t h)
 value-take m t Binary h = refl
 
-pub well-more : (m n w : ℕ) → m ≤ n → WellFormed m w → WellFormed n w
-well-more m n w l h = inside-more m n w l h
-
 pub value-more : (t u : ℕ) (x y : List ℕ) (w : ℕ) → t ≤ u → WellFormed t w → take t y ≡ take t x → valueOf (take u y) w ≡ valueOf (take t x) w
 value-more t u x y w l h e =
-    value-take u y (refOf w) (well-inside u w (well-more t u w l h)) ∙ sym (value-take t y (refOf w) (well-inside t w h)) ∙ ap (λ z. valueOf z w) e
+    value-take u y (refOf w) (well-inside u w (inside-more t u w l h)) ∙ sym (value-take t y (refOf w) (well-inside t w h)) ∙ ap (λ z. valueOf z w) e

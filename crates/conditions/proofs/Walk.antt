@@ -11,6 +11,7 @@ use lib.Seq.{length-take-le}
 use denote.Enum.Declared.{tagOf}
 use types.Run.{OneOf}
 use Rattle.cells.specs.Cell.{WellFormed}
+use Rattle.cells.proofs.Stops.{inside-more}
 use Rattle.values.specs.Value.{Value, valueOf, toBool, fromBool}
 use Rattle.integers.specs.Outcome.{Outcome, value, gave, replyOf, placed}
 use Rattle.integers.specs.declared.Answer.{Answer}
@@ -20,10 +21,10 @@ use Rattle.operators.specs.Operator.{unaryOf, Applied, Room}
 use Rattle.operators.specs.declared.Rules.{Rules}
 use Rattle.operators.proofs.ByKind.{plain-unary, plain-flag}
 use Rattle.operators.proofs.Holding.{holds-unary, holds-truth, value-int32}
-use Rattle.conditions.specs.Ast.{Ast, leaf, unary, binary, joins, eval, decides, twoSided, andThen}
+use Rattle.conditions.specs.Ast.{Ast, Tree, leaf, unary, binary, size, height, joins, eval, decides, twoSided, andThen}
 use Rattle.conditions.specs.Table.{nodeOf, leafOf, grow, treeOf, LeafSound, SoundAt, Sound, rowOf, RowSound, Asks, Says, Gives, Answers, LeafIs, Lies}
 use Rattle.conditions.specs.declared.Node.the-variants.{Leaf, One, Two}
-use Rattle.conditions.proofs.Giving.{handed-on, says-more, kept-trans, applied-gives, well-more, value-more}
+use Rattle.conditions.proofs.Giving.{handed-on, says-more, kept-trans, applied-gives, value-more}
 use Rattle.conditions.proofs.Lying.{lies-one, lies-two}
 use Rattle.conditions.proofs.Deciding.{holds-two-sided}
 
@@ -75,7 +76,7 @@ module _ (R : Rules) (used top d k : ℕ) (nodes row text : List ℕ) (A : Asks 
         kept = refl;
         says = (
           ap (eval R (rowOf base row)) q ∙ l .means R base ∙ ap value (sym (value-more used top text text c (A .marks) (l .within) refl)),
-          well-more used top c (A .marks) (l .within),
+          inside-more used top c (A .marks) (l .within),
           omega arith,
           omega arith,
         );
@@ -220,7 +221,7 @@ module _ (R : Rules) (used top d k : ℕ) (nodes row text : List ℕ) (A : Asks 
                   }
 
               pub join-asks : (32 ≤ op) × (op < 50) × Room R u (length last) × WellFormed u v × WellFormed u w
-              join-asks = (at-two .0 .0, at-two .0 .1, room-now, well-more t u v (right-says .2) (g .says .1), right-says .1)
+              join-asks = (at-two .0 .0, at-two .0 .1, room-now, inside-more t u v (right-says .2) (g .says .1), right-says .1)
 
               pub two-answers : (end : List ℕ) (r : Answer) → Applied last end u r (twoSided R op (valueOf (take u last) v) (valueOf (take u last) w))
                   → Answers R used top d k nodes row text end r
@@ -240,3 +241,17 @@ module _ (R : Rules) (used top d k : ℕ) (nodes row text : List ℕ) (A : Asks 
               two-lies end r j =
                   lies-two u (R .limit) (A .short) (omega (arith, room-now .above, room-now .small)) top op l _ row _ r (omega (arith, g .says .2, right-says .2)) e
                   (holds-two-sided R op _ _ (value-int32 (take u last) v) (value-int32 (take u last) w)) (j .reply)
+
+-- every tree has a height
+pub height-pos : (t : Tree ℕ) → 0 < height t
+unfolding height
+height-pos (leaf w) = omega arith
+height-pos (unary op a) = omega arith
+height-pos (binary op a b) = omega arith
+
+-- and a node
+pub size-pos : (t : Tree ℕ) → 1 ≤ size t
+unfolding size
+size-pos (leaf w) = omega arith
+size-pos (unary op a) = omega arith
+size-pos (binary op a b) = omega arith

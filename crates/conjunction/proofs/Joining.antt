@@ -1,12 +1,12 @@
 -- The joined bytes, written one condition after the other. Assumes nothing.
 use mathlib.Core.Path.{_≡_, refl, sym, ap, subst, _∙_}
 use mathlib.Core.List.{List, [], _∷_, _++_}
-use Prim.Native.Nat.{ℕ, zero, suc, _+_, _≤_, _<_}
+use Prim.Native.Nat.{ℕ, _+_, _≤_, _<_}
 use native.Mathlib.Omega.{arith}
 use lib.ListN.{length, take, set, length-append}
 use lib.Seq.{length-take-le}
 use Rattle.slices.specs.Splice.{splice, Wrote}
-use Rattle.slices.proofs.Splice.{wrote-then, wrote-length, wrote-front, splice-set, splice-nil}
+use Rattle.slices.proofs.Splice.{wrote-then, wrote-length, wrote-front, wrote-one}
 use Rattle.refusals.specs.Stop.{never, stopOf, countedFrom, orElse}
 use Rattle.refusals.specs.declared.Refusal.{Refusal}
 use Rattle.writing.specs.Writing.{WrittenIs}
@@ -15,10 +15,6 @@ use Rattle.nodes.specs.declared.Allowed.the-variants.{Mixed}
 use Rattle.forms.specs.Form.{parsed, formStop}
 use Rattle.conjunction.specs.With.{conjunction, eachStop, withStop, WithIs}
 use Rattle.conjunction.proofs.Stopping.{counted-zero}
-
--- one byte written
-pub wrote-byte : (d : List ℕ) (at x : ℕ) → at < length d → Wrote d at (x ∷ []) (at + 1) (set d at x)
-wrote-byte d at x h = record { room = omega arith; place = refl; list = sym (splice-nil (set d at x) (suc at)) ∙ splice-set d at x [] h }
 
 pub conjunction-long : (old new : List ℕ) → length (conjunction old new) ≤ length old + length new + 1
 conjunction-long [] new = omega arith
@@ -33,7 +29,7 @@ module _ (old new d e f : List ℕ) (p q : ℕ) (first : Wrote d 0 old p e) (sec
       by (b ∷ old) h w = absurd (let z : ⊥ = omega arith in z)
 
   pub join-both : (length old ≡ 0 → ⊥) → q < length f → Wrote d 0 (conjunction old new) (q + 1) (set f q 48)
-  join-both h l = by old h (wrote-then first (wrote-then second (wrote-byte f q 48 l)))
+  join-both h l = by old h (wrote-then first (wrote-then second (wrote-one f q 48 l)))
     where
       by : (old : List ℕ) → (length old ≡ 0 → ⊥) → Wrote d 0 (old ++ (new ++ (48 ∷ []))) (q + 1) (set f q 48) → Wrote d 0 (conjunction old new) (q + 1) (set f q 48)
       by [] h w = absurd (h refl)

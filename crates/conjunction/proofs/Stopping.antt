@@ -1,8 +1,8 @@
 -- Which check stops `with`, and what is known where none of them does. Assumes nothing.
-use mathlib.Core.Path.{_≡_, refl, sym, ap, subst, _∙_}
+use mathlib.Core.Path.{_≡_, refl, ap, subst, _∙_}
 use mathlib.Core.Bool.{Bool, true, false}
 use mathlib.Core.List.{List, [], _∷_}
-use Prim.Native.Nat.{ℕ, _+_, _≤_, _<_}
+use Prim.Native.Nat.{ℕ, _+_, _≤_}
 use native.Mathlib.Omega.{arith}
 use native.Mathlib.Nat.{zero-add}
 use lib.ListN.{length}
@@ -13,6 +13,7 @@ use Rattle.refusals.specs.Stop.{Stop, never, stop, stopIf, stopOf, checkedOf, c
 use Rattle.refusals.specs.declared.Refusal.{Refusal}
 use Rattle.refusals.specs.declared.Checked.the-variants.{Refused}
 use Rattle.refusals.proofs.First.{never-both}
+use Rattle.refusals.proofs.Counting.{counted-never}
 use Rattle.checks.specs.Check.{roomStop, outputStop}
 use Rattle.nodes.specs.declared.Allowed.the-variants.{Mixed}
 use Rattle.forms.specs.Form.{Parsed, tree, refusal, parsed, formStop}
@@ -25,10 +26,6 @@ use Rattle.conjunction.specs.With.{conjunction, oldStop, eachStop}
 pub counted-zero : (s : Stop) → countedFrom 0 s ≡ s
 counted-zero never = refl
 counted-zero (stop number place) = ap (stop number) (zero-add place)
-
-counted-never : (from : ℕ) (s : Stop) → countedFrom from s ≡ never → s ≡ never
-counted-never from never e = refl
-counted-never from (stop number place) e = absurd (let z : _≡_ {A = ℕ} 0 1 = cc in omega arith)
 
 -- the scan's answer as a stop
 module _ (used : ℕ) (b nodes : List ℕ) (x : Scanned) (s : ScanIs used b nodes x (parsed Mixed used b)) where
@@ -97,8 +94,3 @@ module _ (used : ℕ) where
         by : (x : Bool) → ltb output 448 ≡ x → stopIf x 10 0 ≡ never → 448 ≤ output
         by true q h = absurd (let z : _≡_ {A = ℕ} 0 1 = cc in omega arith)
         by false q h = ltb-false output 448 q
-
--- the last check decides
-pub last-first : (s : Stop) → orElse s never ≡ s
-last-first never = refl
-last-first (stop number place) = refl

@@ -1,15 +1,17 @@
--- A bound condition whose numbers are columns': its tree has no named column, and each number is below the width. Assumes nothing.
-use mathlib.Core.Path.{_≡_, refl, sym, ap, _∙_}
+-- A bound condition whose numbers are columns': its tree has true-false named column, and each number is below the width. Assumes nothing.
+use mathlib.Core.Path.{_≡_, refl, sym, _∙_}
 use mathlib.Core.Bool.{Bool, true, false, not, cond}
 use mathlib.Core.List.{List, [], _∷_}
-use Prim.Native.Nat.{ℕ, zero, suc, _+_, _*_, _^_, _/_, _%_, _≤_, _<_}
+use Prim.Native.Nat.{ℕ, zero, suc, _+_, _*_, _^_, _/_, _%_, _<_}
 use native.Mathlib.Omega.{arith}
 use lib.ListN.{length, getD}
 use lib.Dec.{ltb, leb, eqb}
-use borrow.Author.Tests.{eq-eqb, ne-eqb, leb-false, ltb-true, eqb-true}
-use Rattle.refusals.specs.Stop.{Stop, never, stop, stopIf, orElse}
+use borrow.Author.Tests.{eq-eqb, ne-eqb, leb-false, ltb-true}
+use Rattle.refusals.specs.Stop.{Stop, never, stopIf, orElse}
 use Rattle.refusals.proofs.First.{never-both}
+use Rattle.refusals.proofs.Bools.{true-false}
 use Rattle.slices.specs.Bytes.{both}
+use Rattle.slices.proofs.Both.{both-true}
 use Rattle.conditions.specs.Ast.{Tree, leaf, unary, binary, height}
 use Rattle.nodes.specs.Kind.{known, allows, isKind, bodyOf, leafWord, textFits, two, four}
 use Rattle.nodes.specs.declared.Allowed.the-variants.{Bound}
@@ -26,13 +28,6 @@ Narrow width (binary op a b) = Narrow width a × Narrow width b
 unfoldable pub AllNarrow : ℕ → List (Tree ℕ) → Type 0
 AllNarrow width [] = Unit {0}
 AllNarrow width (t ∷ s) = Narrow width t × AllNarrow width s
-
-no : {X : Type 0} → true ≡ false → X
-no e = absurd (let z : _≡_ {A = ℕ} 0 1 = cc in omega arith)
-
-both-true : (a b : Bool) → both a b ≡ true → (a ≡ true) × (b ≡ true)
-both-true true b e = (refl, e)
-both-true false b e = absurd (let z : _≡_ {A = ℕ} 0 1 = cc in omega arith)
 
 module _ (width used at : ℕ) (b : List ℕ) (B : (i : ℕ) → getD b i 0 < 256) where
   two-small : (i : ℕ) → two b i < 65536
@@ -106,7 +101,7 @@ module _ (width used at : ℕ) (b : List ℕ) (B : (i : ℕ) → getD b i 0 < 25
   moved-node k s h l = by (known Bound k) refl
     where
       bound : known Bound k ≡ true → k ≡ 3 → ⊥
-      bound e f = let q : allows Bound k ≡ true = unfold known in both-true (isKind k) (allows Bound k) e .1 in let r : not (eqb k 3) ≡ true = q in let g : not true ≡ true = rw (eq-eqb k 3 f) at r in no (sym g)
+      bound e f = let q : allows Bound k ≡ true = unfold known in both-true (isKind k) (allows Bound k) e .1 in let r : not (eqb k 3) ≡ true = q in let g : not true ≡ true = rw (eq-eqb k 3 f) at r in true-false (sym g)
 
       by : (x : Bool) → known Bound k ≡ x
           → Moved k (cond x (cond (leb (at + 1 + bodyOf k) (length b))

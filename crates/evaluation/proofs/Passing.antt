@@ -7,11 +7,12 @@ use lib.ListN.{length, take}
 use lib.Seq.{take-length, length-take-le}
 use Rattle.refusals.specs.Stop.{never}
 use Rattle.cells.specs.Cell.{WellFormed}
+use Rattle.cells.proofs.Stops.{inside-more}
 use Rattle.values.specs.Value.{valueOf}
 use Rattle.checks.proofs.Turns.{room-there}
 use Rattle.operators.specs.declared.Rules.{Rules}
 use Rattle.conditions.specs.Ast.{Tree, size}
-use Rattle.conditions.proofs.Giving.{well-more, value-more}
+use Rattle.conditions.proofs.Giving.{value-more}
 use Rattle.nodes.specs.declared.Allowed.the-variants.{Bound}
 use Rattle.forms.specs.Form.{Parsed, tree, refusal, parsed}
 use Rattle.straight.specs.Straight.{Straight}
@@ -51,7 +52,7 @@ module _ (R : Rules) (b row text : List ℕ) (used w : ℕ) (S : Straight b row 
     kept = refl;
     says = (
       rw (none, form) (ap atZero (S .ran .means R) ∙ ap (λ v. gave v) (sym (value-more used (length text) text text w marked fine refl) ∙ ap (λ z. valueOf z w) (take-length text))),
-      well-more used (length text) w marked fine,
+      inside-more used (length text) w marked fine,
       lies,
     );
   }

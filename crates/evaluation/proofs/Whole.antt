@@ -1,7 +1,7 @@
 -- From the scan to the evaluation: the tree that evaluation walks is the condition's, it is sound, there is room for all its joins,
 -- and what the answer says. Assumes nothing.
 use mathlib.Core.Path.{_≡_, refl, sym, ap, ap₂, subst, _∙_}
-use mathlib.Core.List.{List, [], _∷_}
+use mathlib.Core.List.{List, []}
 use mathlib.Core.Bool.{Bool, true, false, cond}
 use Prim.Native.Nat.{ℕ, zero, suc, _+_, _-_, _*_, _^_, _/_, _%_, _≤_, _<_, max}
 use native.Mathlib.Omega.{arith}
@@ -11,6 +11,7 @@ use lib.Dec.{eqb, ltb}
 use Rattle.refusals.specs.Stop.{stopOf}
 use Rattle.refusals.specs.declared.Refusal.{Refusal}
 use Rattle.cells.specs.Cell.{WellFormed, startOf, lengthOf}
+use Rattle.cells.proofs.Stops.{inside-more}
 use Rattle.values.specs.Value.{valueOf}
 use Rattle.checks.proofs.Turns.{cells-sound, room-there}
 use Rattle.integers.specs.declared.Answer.{Answer}
@@ -19,7 +20,8 @@ use Rattle.operators.specs.declared.Rules.{Rules}
 use Rattle.conditions.specs.Ast.{Tree, Atom, leaf, unary, binary, mapTree, eval, height, size, joins}
 use Rattle.conditions.specs.Table.{nodeOf, leafOf, treeOf, rowOf, leafCell, LeafSound, SoundAt, Sound, RowSound, Asks, Answers, LiesAt, Lies}
 use Rattle.conditions.specs.declared.Node.the-variants.{Leaf, One, Two}
-use Rattle.conditions.proofs.Giving.{well-more, value-more}
+use Rattle.conditions.proofs.Giving.{value-more}
+use Rattle.conditions.proofs.Walk.{height-pos}
 use Rattle.nodes.specs.Kind.{leafWord}
 use Rattle.forms.specs.Form.{Parsed, tree, refusal}
 use Rattle.forms.specs.Held.{LeafHeld, Denotes}
@@ -29,12 +31,6 @@ use Rattle.evaluation.specs.declared.Evaluated.{Evaluated}
 use Rattle.evaluation.specs.declared.Evaluated.the-variants.{Cell, Refused}
 use Rattle.evaluation.proofs.Stopping.{room-passed, cells-passed, numbers-passed}
 use Rattle.evaluation.proofs.Narrowing.{Narrow, AllNarrow, parse-narrow}
-
-height-pos : (t : Tree ℕ) → 0 < height t
-unfolding height
-height-pos (leaf w) = omega arith
-height-pos (unary op a) = omega arith
-height-pos (binary op a b) = omega arith
 
 -- the tree that evaluation walks
 pub denotes-tree : (used : ℕ) (base nodes : List ℕ) (d k : ℕ) (t : Tree ℕ) → height t ≤ d → Denotes used nodes k t → treeOf base d nodes k ≡ mapTree (leafOf base) t
@@ -180,7 +176,7 @@ module _ (R : Rules) (limit : R .limit ≤ 1024) (b row text : List ℕ) (bytes 
           kept = a .kept;
           says = (
             whole ∙ ap atZero (a .says .0) ∙ ap (λ v. gave v) (sym (value-more u (length after) after after w below (a .says .1) refl) ∙ ap (λ z. valueOf z w) (take-length after)),
-            well-more u (length after) w below (a .says .1),
+            inside-more u (length after) w below (a .says .1),
             λ s e. subst (λ m. LiesIn b row used m w) (ap sizeOf (sym (p .1 .1) ∙ e)) (lies-in used nodes b row (p .1 .7) w (n - 1) t k+1 held l),
           );
         }

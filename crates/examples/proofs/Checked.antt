@@ -15,6 +15,7 @@ use Rattle.values.specs.Order.{order}
 use Rattle.values.proofs.Ordered.{order-equal}
 use Rattle.slices.specs.Bytes.{sameBytes}
 use Rattle.slices.proofs.Bytes.{same-eq}
+use Rattle.slices.proofs.Both.{both-true}
 use Rattle.integers.specs.Integer.{fitted, onInts}
 use Rattle.operators.specs.Operator.{holds, compared, onKinds, binaryOf, unaryOf}
 use Rattle.cells.specs.Cell.{bodiesOf, isCell, reachesBeyond, cellStop, wordOf, refOf}
@@ -50,10 +51,6 @@ checked = refl
 
 no : {X : Type 0} → false ≡ true → X
 no e = absurd (let z : _≡_ {A = ℕ} 0 1 = cc in omega arith)
-
-both-true : (a b : Bool) → both a b ≡ true → (a ≡ true) × (b ≡ true)
-both-true true b e = (refl, e)
-both-true false b e = absurd (let z : _≡_ {A = ℕ} 0 1 = cc in omega arith)
 
 each : (p : Example → Bool) (es : List Example) → all p es ≡ true → (e : Example) → List·Memᴰ e es → p e ≡ true
 each p [] h e m = absurd (List·Memᴰ·not-nil m)

@@ -1,23 +1,24 @@
 -- The call `fold`: which check stops it, that 32,768 bytes above the mark and 448 of output always suffice, and what its answer says. Assumes nothing.
 use mathlib.Core.Path.{_≡_, refl, sym, ap, ap₂, subst, _∙_}
 use mathlib.Core.Bool.{Bool, true, false}
-use mathlib.Core.List.{List, [], _∷_, _++_}
-use Prim.Native.Nat.{ℕ, zero, suc, _+_, _-_, _*_, _≤_, _<_}
+use mathlib.Core.List.{List, _++_}
+use Prim.Native.Nat.{ℕ, _+_, _-_, _≤_}
 use native.Mathlib.Omega.{arith}
 use native.Mathlib.Nat.{zero-add}
 use lib.ListN.{length, take, length-append}
-use lib.Seq.{length-take-le, take-length, take-all}
+use lib.Seq.{length-take-le, take-all}
 use lib.Dec.{ltb}
 use borrow.Author.Tests.{ltb-false}
 use Rattle.refusals.specs.Told.{told}
-use Rattle.refusals.specs.Stop.{Stop, never, stop, stopIf, stopOf, orElse}
+use Rattle.refusals.specs.Stop.{Stop, never, stopIf, stopOf, orElse}
 use Rattle.refusals.specs.declared.Refusal.{Refusal}
 use Rattle.refusals.proofs.First.{never-both}
 use Rattle.slices.specs.Splice.{splice, Wrote}
+use Rattle.slices.proofs.Pieces.{take-own}
 use Rattle.checks.specs.Check.{roomStop, outputStop}
 use Rattle.checks.proofs.Turns.{room-there}
 use Rattle.operators.specs.declared.Rules.{Rules}
-use Rattle.conditions.specs.Ast.{Tree, size, height, joins}
+use Rattle.conditions.specs.Ast.{Tree, size, joins}
 use Rattle.nodes.specs.declared.Allowed.the-variants.{Mixed}
 use Rattle.forms.specs.Form.{tree, refusal, parsed, formStop}
 use Rattle.forms.specs.Held.{ScanIs}
@@ -70,12 +71,6 @@ module _ (b : List ℕ) (size used output : ℕ) where
     there = room-there 32768 size used room-passed
 
 -- ---- refused before folding
-
--- a front is as long as it is
-take-own : (n : ℕ) (l : List ℕ) → take (length (take n l)) l ≡ take n l
-take-own zero l = refl
-take-own (suc n) [] = refl
-take-own (suc n) (x ∷ l) = ap (λ y. x ∷ y) (take-own n l)
 
 pub denied : (R : Rules) (b text out : List ℕ) (used : ℕ) (r : Refusal) → foldStop b (length text) used (length out) ≡ stopOf r
     → FoldIs (folding R b (take used text) (length text) used (length out)) (take used text) text out out (Shortened.Refused r)

@@ -9,13 +9,12 @@ use lib.ListN.{length, getD}
 use Rattle.refusals.specs.Stop.{Stop, never, stop, stopIf, orElse, firstOf}
 use Rattle.refusals.proofs.First.{never-both}
 use Rattle.cells.specs.Cell.{cellStop}
-use Rattle.cells.proofs.Stops.{stop-never, never-stops, well-formed}
+use Rattle.cells.proofs.Stops.{stop-never, never-stops, well-formed, inside-more}
 use Rattle.checks.specs.Check.{roomStop, cellsStop}
 use Rattle.integers.specs.Outcome.{Outcome, value}
 use Rattle.operators.specs.declared.Rules.{Rules}
 use Rattle.conditions.specs.Ast.{Tree, size, height, mapTree, eval}
 use Rattle.conditions.specs.Table.{leafOf, rowOf}
-use Rattle.conditions.proofs.Giving.{well-more}
 use Rattle.nodes.specs.declared.Allowed.the-variants.{Bound, Mixed}
 use Rattle.forms.specs.Form.{parsed, formStop}
 use Rattle.forms.specs.Number.{numbersStop}
@@ -37,7 +36,7 @@ unfolding cellsStop
 cells-higher m n p [] l h = refl
 cells-higher m n p (w ∷ row) l h =
     let q = never-both (cellStop m w p) (cellsStop m (suc p) row) h in
-    let k = never-stops n w 0 (well-more m n w l (well-formed m w p (q .0))) in
+    let k = never-stops n w 0 (inside-more m n w l (well-formed m w p (q .0))) in
     rw (stop-never n w p (k .0) (k .1)) (cells-higher m n (suc p) row l (q .1))
 
 -- and mean the same

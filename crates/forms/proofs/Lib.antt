@@ -5,3 +5,4 @@ pub mod Steps
 pub mod Scanning
 pub mod Unique
 pub mod Numbers
+pub mod Denoting

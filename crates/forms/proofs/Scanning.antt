@@ -20,7 +20,6 @@ use Rattle.forms.specs.Held.{Denotes, Held, Marks, StepIs, StepFine, Sca
 use Rattle.forms.specs.declared.Step.{Step}
 use Rattle.forms.specs.declared.Step.the-variants.{Took, Refused}
 use Rattle.forms.specs.declared.Scanned.the-variants.{Table, Denied}
-use Rattle.forms.proofs.Stack.{size-pos}
 
 pub record Scanning (form : Allowed) (used : ℕ) (b nodes starts deeps : List ℕ) (n at : ℕ) : Type 0 where
   pub long : length nodes ≡ 64

@@ -1,26 +1,20 @@
 -- Laws of the tables that hold a stack of trees. Assumes nothing.
 use mathlib.Core.Path.{_≡_, refl, sym, ap, ap₂, _∙_, subst}
 use mathlib.Core.List.{List, [], _∷_}
-use mathlib.Core.Bool.{Bool, true, false, cond}
-use Prim.Native.Nat.{ℕ, zero, suc, _+_, _-_, _*_, _^_, _/_, _%_, _≤_, _<_, max}
+use Prim.Native.Nat.{ℕ, _+_, _-_, _*_, _^_, _/_, _%_, _≤_, _<_, max}
 use native.Mathlib.Omega.{arith}
 use native.Mathlib.Nat.{add-sub-cancel, pos-of-ne-zero}
 use lib.ListN.{length, getD, set}
 use lib.Seq.{getD-set-same, getD-set-other}
-use lib.Dec.{ltb, leb, eqb}
-use borrow.Author.Tests.{lt-ltb, le-ltb, le-leb, lt-leb, eq-eqb, ne-eqb}
+use lib.Dec.{leb}
+use borrow.Author.Tests.{lt-ltb, le-ltb, le-leb, lt-leb, eq-eqb}
 use Rattle.conditions.specs.Ast.{Tree, leaf, unary, binary, height, size}
 use Rattle.conditions.specs.Table.{nodeOf}
 use Rattle.conditions.specs.declared.Node.the-variants.{Leaf, One, Two}
+use Rattle.conditions.proofs.Walk.{size-pos}
 use Rattle.forms.specs.Form.{Move, go, stop, pushed, onOne, onTwo}
 use Rattle.forms.specs.Held.{LeafHeld, Denotes, Held, Marks, StepIs}
 use Rattle.forms.specs.declared.Step.the-variants.{Took, Refused}
-
-pub size-pos : (t : Tree ℕ) → 0 < size t
-unfolding size
-size-pos (leaf w) = omega arith
-size-pos (unary op a) = omega arith
-size-pos (binary op a b) = omega arith
 
 -- the nodes of the words
 one-node : (k : ℕ) → 16 ≤ k → k < 32 → nodeOf (k * 2 ^ 56) ≡ One k

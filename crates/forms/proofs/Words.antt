@@ -1,13 +1,13 @@
 -- The words of leaves: each is a leaf of the table that is held. Assumes nothing.
-use mathlib.Core.Path.{_≡_, refl, sym, ap, _∙_}
+use mathlib.Core.Path.{_≡_, refl, _∙_}
 use mathlib.Core.List.{List}
-use mathlib.Core.Bool.{Bool, true, false, cond}
+use mathlib.Core.Bool.{true}
 use Prim.Native.Nat.{ℕ, zero, suc, _+_, _*_, _^_, _/_, _%_, _≤_, _<_}
 use native.Mathlib.Omega.{arith}
 use lib.ListN.{getD}
 use lib.Dec.{leb, lit<}
 use borrow.Author.Tests.{leb-true}
-use Rattle.slices.specs.Bytes.{both}
+use Rattle.slices.proofs.Both.{both-true}
 use Rattle.columns.specs.Column.{isNameLength}
 use Rattle.cells.specs.Cell.{bodiesOf}
 use Rattle.cells.proofs.Stops.{stop-never, cell-by, text-by, inside-by}
@@ -18,10 +18,6 @@ use Rattle.nodes.specs.declared.Allowed.{Allowed}
 use Rattle.nodes.proofs.Bodies.{known-leaf}
 use Rattle.forms.specs.Held.{LeafHeld}
 use Rattle.forms.proofs.Stack.{leaf-node}
-
-both-first : (a b : Bool) → both a b ≡ true → a ≡ true
-both-first true b e = refl
-both-first false b e = absurd (let z : _≡_ {A = ℕ} 0 1 = cc in omega arith)
 
 module _ (used at : ℕ) (b : List ℕ) (B : (i : ℕ) → getD b i 0 < 256) where
   two-small : (i : ℕ) → two b i < 65536
@@ -68,7 +64,7 @@ module _ (used at : ℕ) (b : List ℕ) (B : (i : ℕ) → getD b i 0 < 256) whe
       let n : ℕ = two b (at + 5) in
       let x : ℕ = s * 65536 + n in
       let e : (3 * 2 ^ 56 + x) / 2 ^ 56 ≡ 3 = omega (arith, four-small (at + 1), two-small (at + 5)) in
-      let l : s + n ≤ used = leb-true (s + n) used (both-first (leb (s + n) used) (isNameLength n) h) in
+      let l : s + n ≤ used = leb-true (s + n) used (both-true (leb (s + n) used) (isNameLength n) h .0) in
       let p : (3 * 2 ^ 56 + x) / 65536 % 2 ^ 32 ≡ s = omega (arith, four-small (at + 1), two-small (at + 5)) in
       let q : (3 * 2 ^ 56 + x) % 65536 ≡ n = omega (arith, two-small (at + 5)) in
       (leaf-node 3 x (lit< tt) (omega (arith, four-small (at + 1), two-small (at + 5))), rw e (omega arith))

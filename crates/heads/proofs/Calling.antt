@@ -1,8 +1,8 @@
 -- Both calls: that 32,768 bytes above the mark and 64 words always suffice, and what the answer says. Assumes nothing.
 use mathlib.Core.Path.{_≡_, refl, sym, ap, ap₂, subst, _∙_}
 use mathlib.Core.Bool.{Bool, false}
-use mathlib.Core.List.{List, [], _∷_, append-nil}
-use Prim.Native.Nat.{ℕ, zero, suc, _+_, _*_, _≤_, _<_}
+use mathlib.Core.List.{List, [], append-nil}
+use Prim.Native.Nat.{ℕ, _+_, _*_, _≤_, _<_}
 use native.Mathlib.Omega.{arith}
 use lib.ListN.{length, take}
 use lib.Seq.{length-take-le, take-take}
@@ -12,6 +12,7 @@ use Rattle.refusals.specs.Stop.{never, stopOf}
 use Rattle.refusals.specs.declared.Refusal.{Refusal}
 use Rattle.refusals.specs.declared.Refusal.the-variants.{OutputShort}
 use Rattle.slices.specs.Splice.{Wrote}
+use Rattle.slices.proofs.Pieces.{take-own}
 use Rattle.tables.specs.Table.{columnCount}
 use Rattle.naming.specs.OneSide.{Head, joined, sideOf}
 use Rattle.heads.specs.Heads.{headOf, headStop, head, ifRoom, wrote, HeadIs}
@@ -21,12 +22,6 @@ use Rattle.naming.specs.declared.Joined.the-variants.{Words, Refused}
 use Rattle.naming.proofs.Joining.{ahead-none}
 use Rattle.heads.proofs.Rising.{columns-rise}
 use Rattle.heads.proofs.Stopping.{Passed, passed}
-
--- a front is as long as it is
-take-own : (n : ℕ) (l : List ℕ) → take (length (take n l)) l ≡ take n l
-take-own zero l = refl
-take-own (suc n) [] = refl
-take-own (suc n) (x ∷ l) = ap (λ y. x ∷ y) (take-own n l)
 
 -- both sides are joined: the words in the table of their own, and the text up to the new mark
 pub record Done (whole : Head) (stored out after words : List ℕ) (count top : ℕ) : Type 0 where

@@ -11,7 +11,7 @@ use lib.Seq.{length-take-le, take-take, take-length, take-append-seam}
 use lib.Dec.{eqb, ltb, leb}
 use borrow.Author.Tests.{eq-eqb, lt-ltb, le-leb, ltb-true, eqb-false, leb-true, not-false}
 use Rattle.refusals.specs.Stop.{Stop, never, stop, stopIf}
-use Rattle.refusals.proofs.First.{never-both}
+use Rattle.refusals.proofs.First.{never-both, not-stopped}
 use Rattle.slices.specs.Splice.{piece}
 use Rattle.cells.specs.Cell.{startOf, lengthOf, wordOf, Inside}
 use Rattle.cells.specs.declared.ValueRef.the-variants.{Str}
@@ -24,7 +24,7 @@ use Rattle.columns.proofs.Stops.{name-never}
 use Rattle.tables.specs.Table.{columnCount, isTable}
 use Rattle.naming.specs.OneSide.{Head, joined, Named, named, tooLong, prefixed, appended, nameOf, ruleOf, behind, ofName, sideOf}
 use Rattle.heads.specs.Heads.{headOf, headStop, head, ifRoom, unlessStopped}
-use Rattle.heads.proofs.Rising.{no-stop, name-rises, columns-rise}
+use Rattle.heads.proofs.Rising.{name-rises, columns-rise}
 use Rattle.heads.proofs.Stopping.{Passed, passed}
 
 -- ---- rules
@@ -158,7 +158,7 @@ side-good table nullable number (name ∷ rule ∷ columns) rest stored used p c
     let e : suc (suc (columnWords columns + count)) ≡ columnWords (name ∷ rule ∷ columns) + count = omega arith in
     subst (λ c. GoodHead stored c (sideOf table nullable number (name ∷ rule ∷ columns) rest stored)) e
     (of-name-good stored (nameOf table stored name) number (ruleOf nullable rule) (columnWords columns + count) (λ s. sideOf table nullable (suc number) columns rest s)
-    (name-good table stored used name p (b .0) u (omega arith)) (rule-good nullable rule (not-false (isRule rule) (no-stop (not (isRule rule)) 8 (p + 1) (b .1))))
+    (name-good table stored used name p (b .0) u (omega arith)) (rule-good nullable rule (not-false (isRule rule) (not-stopped (not (isRule rule)) 8 (p + 1) (b .1))))
     (λ s l m. side-good table nullable (suc number) columns rest s used (p + 2) count (a .1) (omega arith) (omega arith) (λ t x y. f t (omega arith) (omega arith))))
 
 -- ---- both sides

@@ -7,9 +7,10 @@ use native.Mathlib.Nat.{add-mul, mul-le-mul}
 use lib.ListN.{length, take, length-append}
 use lib.Seq.{length-take-le}
 use borrow.Author.Tests.{lt-ltb, le-ltb}
-use Rattle.refusals.specs.Stop.{Stop, never, stopOf, orElse}
+use Rattle.refusals.specs.Stop.{never, stopOf}
 use Rattle.refusals.specs.declared.Refusal.{Refusal}
 use Rattle.refusals.specs.declared.Refusal.the-variants.{OutputShort}
+use Rattle.refusals.proofs.First.{first-stops}
 use Rattle.slices.specs.Splice.{splice}
 use Rattle.writing.specs.declared.Written.{Written}
 use Rattle.writing.specs.declared.Written.the-variants.{Count, Refused}
@@ -64,10 +65,6 @@ module _ (columns stored old : List ℕ) (m : ℕ) (new : List ℕ) (n : ℕ) (o
       }
 
 -- ---- the call
-
--- stops in a row: the first, the second, the third
-first-stops : (s later : Stop) (r : Refusal) → s ≡ stopOf r → orElse s later ≡ stopOf r
-first-stops s later r e = ap (λ x. orElse x later) e
 
 module _ (columns old new text : List ℕ) (used : ℕ) (out : List ℕ) where
   abbrev stored : List ℕ

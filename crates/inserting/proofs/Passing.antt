@@ -1,23 +1,21 @@
 -- What insert looks at first: which check stops it, and what is known where none does. Assumes nothing.
-use mathlib.Core.Path.{_≡_, refl, sym, _∙_}
-use mathlib.Core.Bool.{Bool, true, false}
+use mathlib.Core.Path.{_≡_, sym, _∙_}
+use mathlib.Core.Bool.{true, false}
 use mathlib.Core.List.{List, [], _∷_, _++_}
-use Prim.Native.Nat.{ℕ, _*_, _/_, _%_, _≤_}
+use Prim.Native.Nat.{ℕ, _*_, _≤_}
 use native.Mathlib.Omega.{arith}
-use native.Mathlib.Nat.{div-add-mod'}
 use lib.ListN.{length}
-use lib.Dec.{eqb}
-use borrow.Author.Tests.{eqb-true, leb-true}
 use Rattle.refusals.specs.Stop.{Stop, never, stop, checkedOf, orElse}
 use Rattle.refusals.specs.declared.Refusal.{Refusal}
 use Rattle.refusals.specs.declared.Checked.{Checked}
 use Rattle.refusals.specs.declared.Checked.the-variants.{Sound, Refused}
-use Rattle.refusals.proofs.First.{refused-first, sound-first, never-both}
+use Rattle.refusals.proofs.First.{refused-first, sound-first, never-both, nothing-behind}
 use Rattle.slices.specs.Bytes.{both}
+use Rattle.slices.proofs.Both.{both-true}
 use Rattle.checks.specs.Check.{roomStop}
 use Rattle.checks.proofs.Turns.{room-there, cells-sound}
 use Rattle.tables.specs.Table.{columnCount, isTable, areRows, countStop, wordsStop}
-use Rattle.tables.proofs.Words.{Counted, table-counted, words-sound}
+use Rattle.tables.proofs.Words.{Counted, table-counted, words-sound, count-right, rows-whole}
 use Rattle.sorting.specs.Sorted.{doubleStop, newStop}
 use Rattle.sorting.specs.Rows.{compareRows, RowsSound}
 use Rattle.sorting.proofs.Joined.{old-double}
@@ -25,11 +23,6 @@ use Rattle.doubles.specs.Doubles.{valuesStop}
 use Rattle.inserting.specs.Insert.{rowsIn, lentStop, keysStop}
 
 -- ---- 10, counts, words
-
--- nothing behind a stop
-pub last : (s : Stop) → s ≡ orElse s never
-last never = refl
-last (stop number place) = refl
 
 module _ (columns old new : List ℕ) (size used : ℕ) where
   -- each check in turn
@@ -49,23 +42,7 @@ module _ (columns old new : List ℕ) (size used : ℕ) where
         new-stops e = rw (R, T, O, e)
 
         pub words-stop : areRows (columnCount columns) new ≡ true → wordsStop used (columns ∷ [] ∷ []) (old ∷ new ∷ []) ≡ lentStop columns old new size used
-        words-stop e = rw (R, T, O, e) (last (wordsStop used (columns ∷ [] ∷ []) (old ∷ new ∷ [])))
-
--- what tests that hold say
-both-true : (x y : Bool) → both x y ≡ true → (x ≡ true) × (y ≡ true)
-both-true true y e = (refl, e)
-both-true false y e = absurd (let z : _≡_ {A = ℕ} 0 1 = cc in omega arith)
-
-count-right : (x : Bool) → countStop x ≡ never → x ≡ true
-count-right true e = refl
-count-right false e = absurd (let z : _≡_ {A = ℕ} 0 1 = cc in omega arith)
-
--- a whole number of rows
-rows-whole : (width : ℕ) (rows : List ℕ) → areRows width rows ≡ true → (length rows ≡ length rows / width * width) × (length rows / width ≤ 4096)
-unfolding areRows
-rows-whole width rows e =
-    let h = both-true (eqb (length rows % width) 0) _ e in
-    (omega (arith, div-add-mod' (length rows) width, eqb-true (length rows % width) 0 (h .0)), leb-true (length rows / width) 4096 (h .1))
+        words-stop e = rw (R, T, O, e) (sym (nothing-behind (wordsStop used (columns ∷ [] ∷ []) (old ∷ new ∷ []))))
 
 -- what is known where none stops it
 pub record Lent (columns old new : List ℕ) (size used : ℕ) : Type 0 where
@@ -113,7 +90,7 @@ module _ (columns stored old : List ℕ) (m : ℕ) (new : List ℕ) (n : ℕ) wh
       pub new-keys-stop : b ≡ Sound → (s : Stop) → s ≡ newStop (compareRows columns stored (old ++ new)) m 0 n → s ≡ keysStop columns stored old m new n
       new-keys-stop q s h =
           h
-          ∙ last (newStop (compareRows columns stored (old ++ new)) m 0 n)
+          ∙ sym (nothing-behind (newStop (compareRows columns stored (old ++ new)) m 0 n))
           ∙ sym (sound-first b (doubleStop (compareRows columns stored (old ++ new)) 0 m) _ q twice)
           ∙ sym (sound-first a (valuesStop columns stored 0 new) _ e f)
 
@@ -122,4 +99,4 @@ module _ (columns stored old : List ℕ) (m : ℕ) (new : List ℕ) (n : ℕ) wh
   keys-never e =
       let a = never-both (valuesStop columns stored 0 new) (orElse (doubleStop (compareRows columns stored (old ++ new)) 0 m) (orElse (newStop (compareRows columns stored (old ++ new)) m 0 n) never)) e in
       let b = never-both (doubleStop (compareRows columns stored (old ++ new)) 0 m) (orElse (newStop (compareRows columns stored (old ++ new)) m 0 n) never) (a .1) in
-      (b .0, last (newStop (compareRows columns stored (old ++ new)) m 0 n) ∙ b .1)
+      (b .0, sym (nothing-behind (newStop (compareRows columns stored (old ++ new)) m 0 n)) ∙ b .1)

@@ -1,6 +1,6 @@
 -- Shift amounts, as the code tests them, and shifts. Assumes nothing.
 use mathlib.Core.Path.{_≡_, refl, sym, ap, _∙_}
-use mathlib.Core.Bool.{Bool, true, false, cond}
+use mathlib.Core.Bool.{true, false}
 use Prim.Native.Nat.{ℕ, _+_, _*_, _%_, _^_, _≤_, _<_}
 use native.Mathlib.Omega.{arith}
 use lib.Dec.{T}
@@ -10,17 +10,15 @@ use borrow.Author.Tests.{le-ltb, lt-leb, le-leb, ltb-true, ltb-false}
 use mir.Syntax.{w32, w64}
 use mir.Val.{Fits, SFits, toZ, ofZ}
 use mir.Facts.{ofZ-toZ}
+use Rattle.refusals.proofs.Bools.{true-false}
 use Rattle.values.specs.Value.{int}
 use Rattle.integers.specs.Outcome.{Reply, gave, Outcome, value, placed}
 use Rattle.integers.specs.Integer.{intOf, isAmount, shiftedLeft, shiftedRight, fitted}
 use Rattle.integers.proofs.Placing.{placed-bits, fitted-in}
 use Rattle.integers.proofs.Ranges.{held, held-is, small-in, mag-int}
 
-no : {X : Type 0} → true ≡ false → X
-no e = let z : _≡_ {A = ℕ} 0 1 = ap (λ (b : Bool). cond b 0 1) e in absurd (omega arith)
-
 negative : (y : ℤ) → ltZ y (pos 0) ≡ true → isAmount y ≡ false
-negative (pos n) e = no (sym e ∙ le-ltb n 0 (omega arith))
+negative (pos n) e = true-false (sym e ∙ le-ltb n 0 (omega arith))
 negative (negsuc n) e = refl
 
 large : (y : ℤ) → ltZ (pos 31) y ≡ true → isAmount y ≡ false
@@ -29,7 +27,7 @@ large (negsuc n) e = refl
 
 right : (y : ℤ) → ltZ y (pos 0) ≡ false → ltZ (pos 31) y ≡ false → (isAmount y ≡ true) × (y ≡ pos (natAbs y)) × (natAbs y < 32)
 right (pos n) e f = let l : n ≤ 31 = ltb-false 31 n f in (rw (le-leb 0 n (omega arith), le-leb n 31 l), refl, omega arith)
-right (negsuc n) e f = no e
+right (negsuc n) e f = true-false e
 
 pub shr-fits : (x : ℤ) (m : ℕ) → mag x < 2 ^ 31 → SFits w64 (shrZ x m)
 shr-fits x m l = record { sfits = omega (arith, mag-shr x m) }

@@ -4,7 +4,7 @@ use mathlib.Core.Bool.{Bool, true, false, cond}
 use Prim.Native.Nat.{ℕ, zero, suc, _+_, _-_, _*_, _/_, _%_, _^_, _≤_, _<_}
 use native.Mathlib.Omega.{arith}
 use native.Mathlib.Nat.{mul-le-mul-left, mul-le-mul-right, le-trans, div-le-self}
-use lib.Dec.{ltb, eqb}
+use lib.Dec.{ltb}
 use lib.IntN.{ℤ, pos, negsuc, negℤ, _+ℤ_, _-ℤ_, _*ℤ_, +ℤ-idl}
 use lib.Signed.{mag, ltZ, quotZ, shrZ, mag-shr}
 use borrow.Author.Tests.{lt-ltb, le-ltb, lt-leb, le-leb, ltb-true, ltb-false}
@@ -12,10 +12,8 @@ use borrow.Author.Needs.{sfits-of}
 use mir.Syntax.{w32, w64}
 use mir.Val.{Fits, SFits, toZ, ofZ}
 use mir.Facts.{toZ-ofZ, sfits-toZ}
+use Rattle.refusals.proofs.Bools.{true-false}
 use Rattle.integers.specs.Integer.{intOf, isInt32, isZero}
-
-no : {X : Type 0} → true ≡ false → X
-no e = let z : _≡_ {A = ℕ} 0 1 = ap (λ (b : Bool). cond b 0 1) e in absurd (omega arith)
 
 -- a number as the code holds it
 abbrev pub held : ℤ → ℤ
@@ -34,12 +32,12 @@ held-fits f x y h k l = rw (held-is x h, held-is y k) l
 -- ---- 32 bits
 
 below : (z : ℤ) → ltZ z (negsuc 2147483647) ≡ true → isInt32 z ≡ false
-below (pos n) e = no (sym e)
+below (pos n) e = true-false (sym e)
 below (negsuc n) e = rw (lt-leb n 2147483647 (ltb-true 2147483647 n e))
 
 above : (z : ℤ) → ltZ (pos 2147483647) z ≡ true → isInt32 z ≡ false
 above (pos n) e = rw (lt-leb n 2147483647 (ltb-true 2147483647 n e))
-above (negsuc n) e = no (sym e)
+above (negsuc n) e = true-false (sym e)
 
 between : (z : ℤ) → ltZ z (negsuc 2147483647) ≡ false → ltZ (pos 2147483647) z ≡ false → (isInt32 z ≡ true) × (mag z < 2 ^ 31)
 between (pos n) e f = (rw (le-leb n 2147483647 (ltb-false 2147483647 n f)), omega (arith, ltb-false 2147483647 n f))

@@ -2,22 +2,21 @@
 use mathlib.Core.Path.{_≡_, refl, sym, ap, _∙_}
 use mathlib.Core.Bool.{Bool, true, false}
 use mathlib.Core.List.{List, [], _∷_}
-use Prim.Native.Nat.{ℕ, _*_, _/_, _%_, _≤_}
+use Prim.Native.Nat.{ℕ, _*_, _≤_}
 use native.Mathlib.Omega.{arith}
-use native.Mathlib.Nat.{div-add-mod'}
 use lib.ListN.{length}
-use lib.Dec.{eqb}
-use borrow.Author.Tests.{eqb-true, leb-true, le-leb}
-use Rattle.refusals.specs.Stop.{Stop, never, stop, checkedOf, orElse}
+use borrow.Author.Tests.{le-leb}
+use Rattle.refusals.specs.Stop.{never, stop, checkedOf, orElse}
 use Rattle.refusals.specs.declared.Refusal.{Refusal}
 use Rattle.refusals.specs.declared.Checked.{Checked}
 use Rattle.refusals.specs.declared.Checked.the-variants.{Refused}
-use Rattle.refusals.proofs.First.{told-refused, never-both}
+use Rattle.refusals.proofs.First.{told-refused, never-both, nothing-behind}
 use Rattle.slices.specs.Bytes.{both}
+use Rattle.slices.proofs.Both.{both-true}
 use Rattle.checks.specs.Check.{roomStop, cellsStop}
 use Rattle.evaluation.specs.Evaluation.{isRowLength}
 use Rattle.tables.specs.Table.{columnCount, isTable, areRows, countStop, wordsStop}
-use Rattle.tables.proofs.Words.{Counted, table-counted, words-sound}
+use Rattle.tables.proofs.Words.{Counted, table-counted, words-sound, count-right, rows-whole}
 use Rattle.testing.specs.Test.{roomFor}
 use Rattle.marking.specs.Whole.{TableAsks}
 use Rattle.marking.proofs.Lists.{cells-anywhere}
@@ -33,11 +32,6 @@ no-room (x ∷ b) e = absurd (let z : ⊥ = omega arith in z)
 pub some-room : (b : List ℕ) → (length b ≡ 0 → ⊥) → 32768 ≡ roomFor b
 some-room [] n = absurd (n refl)
 some-room (x ∷ b) n = refl
-
--- nothing behind a stop
-last : (s : Stop) → s ≡ orElse s never
-last never = refl
-last (stop number place) = refl
 
 module _ (counts : Bool) (b columns rows : List ℕ) (size used : ℕ) where
   -- each check in turn
@@ -59,25 +53,9 @@ module _ (counts : Bool) (b columns rows : List ℕ) (size used : ℕ) where
         counts-stop e = rw (R, T, W, e)
 
         pub words-stop : counts ≡ true → wordsStop used (columns ∷ [] ∷ []) (rows ∷ [] ∷ []) ≡ tableStop counts b columns rows size used
-        words-stop e = rw (R, T, W, e) (last (wordsStop used (columns ∷ [] ∷ []) (rows ∷ [] ∷ [])))
+        words-stop e = rw (R, T, W, e) (sym (nothing-behind (wordsStop used (columns ∷ [] ∷ []) (rows ∷ [] ∷ []))))
 
 -- ---- where none does
-
--- what tests that hold say
-both-true : (x y : Bool) → both x y ≡ true → (x ≡ true) × (y ≡ true)
-both-true true y e = (refl, e)
-both-true false y e = absurd (let z : _≡_ {A = ℕ} 0 1 = cc in omega arith)
-
-count-right : (x : Bool) → countStop x ≡ never → x ≡ true
-count-right true e = refl
-count-right false e = absurd (let z : _≡_ {A = ℕ} 0 1 = cc in omega arith)
-
--- a whole number of rows
-pub rows-whole : (width : ℕ) (rows : List ℕ) → areRows width rows ≡ true → (length rows ≡ length rows / width * width) × (length rows / width ≤ 4096)
-unfolding areRows
-rows-whole width rows e =
-    let h = both-true (eqb (length rows % width) 0) _ e in
-    (omega (arith, div-add-mod' (length rows) width, eqb-true (length rows % width) 0 (h .0)), leb-true (length rows / width) 4096 (h .1))
 
 -- 1 to 32 columns are a row's length
 row-wide : (width : ℕ) → 1 ≤ width → width ≤ 32 → isRowLength width ≡ true

@@ -1,6 +1,6 @@
 -- The checks of two rows, one after another: which one stops, and what is known where none does. Assumes nothing.
-use mathlib.Core.Path.{_≡_, refl, sym, ap, _∙_}
-use mathlib.Core.Bool.{Bool, true, false}
+use mathlib.Core.Path.{_≡_, sym, _∙_}
+use mathlib.Core.Bool.{true, false}
 use mathlib.Core.List.{List, [], _∷_}
 use Prim.Native.Nat.{ℕ, _+_, _≤_}
 use native.Mathlib.Omega.{arith}
@@ -8,30 +8,17 @@ use lib.ListN.{length, take}
 use lib.Seq.{length-take-le}
 use lib.Dec.{eqb}
 use borrow.Author.Tests.{eq-eqb, ne-eqb, eqb-true}
-use Rattle.refusals.specs.Stop.{Stop, never, stop, stopOf, orElse}
+use Rattle.refusals.specs.Stop.{Stop, never, stop, stopOf}
 use Rattle.refusals.specs.declared.Refusal.{Refusal}
-use Rattle.refusals.proofs.First.{never-both}
+use Rattle.refusals.proofs.First.{never-both, nothing-behind}
 use Rattle.slices.specs.Bytes.{both}
+use Rattle.slices.proofs.Both.{both-true}
 use Rattle.checks.specs.Check.{roomStop}
 use Rattle.checks.proofs.Turns.{room-there, cells-sound}
 use Rattle.tables.specs.Table.{columnCount, isTable, countStop, wordsStop}
-use Rattle.tables.proofs.Words.{words-sound, table-counted}
+use Rattle.tables.proofs.Words.{words-sound, table-counted, count-right}
 use Rattle.keys.specs.Key.{keyOrder, pick, rowsStop, earlierOf}
 use Rattle.keys.specs.Comparable.{Comparable}
-
--- nothing behind a stop
-last : (s : Stop) → s ≡ orElse s never
-last never = refl
-last (stop number place) = refl
-
--- what tests that hold say
-both-true : (x y : Bool) → both x y ≡ true → (x ≡ true) × (y ≡ true)
-both-true true y e = (refl, e)
-both-true false y e = absurd (let z : _≡_ {A = ℕ} 0 1 = cc in omega arith)
-
-count-right : (x : Bool) → countStop x ≡ never → x ≡ true
-count-right true e = refl
-count-right false e = absurd (let z : _≡_ {A = ℕ} 0 1 = cc in omega arith)
 
 -- ---- which check stops
 
@@ -60,7 +47,7 @@ module _ (columns : List ℕ) (size used : ℕ) (first second : List ℕ) where
         pub only-words : length second ≡ columnCount columns → wordsStop used (columns ∷ [] ∷ []) (first ∷ second ∷ []) ≡ stopped
         only-words s =
             rw (room, table, eq-eqb (length first) (columnCount columns) f, eq-eqb (length second) (columnCount columns) s)
-            (last (wordsStop used (columns ∷ [] ∷ []) (first ∷ second ∷ [])))
+            (sym (nothing-behind (wordsStop used (columns ∷ [] ∷ []) (first ∷ second ∷ []))))
 
 -- ---- what is known then
 

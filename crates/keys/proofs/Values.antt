@@ -14,7 +14,7 @@ use Rattle.slices.specs.declared.Ordering.{Ordering}
 use Rattle.slices.specs.declared.Ordering.the-variants.{Less, Equal, Greater}
 use Rattle.values.specs.Value.{Value, null, int, str, binary}
 use Rattle.values.specs.Order.{byInts, order}
-use Rattle.values.proofs.Ordered.{order-equal}
+use Rattle.values.proofs.Ordered.{order-equal, tests-equal}
 use Rattle.keys.specs.Key.{thenBy}
 use Rattle.keys.proofs.Chains.{flip, Chain, flip-then, less-any, any-greater, chain-then, chain-of, Strict, strict-turned, strict-less}
 
@@ -31,12 +31,6 @@ numbers =
       one-way = λ a b e. le-ltb b a (omega (arith, ltb-true a b e));
       in-a-row = λ a b c e f. lt-ltb a c (omega (arith, ltb-true a b e, ltb-true b c f));
     }
-
--- two tests that tell Equal both fail
-tests-equal : (s t : Bool) → byTests s t Equal ≡ Equal → (s ≡ false) × (t ≡ false)
-tests-equal true t e = absurd (let z : _≡_ {A = ℕ} 0 1 = cc in omega arith)
-tests-equal false true e = absurd (let z : _≡_ {A = ℕ} 0 1 = cc in omega arith)
-tests-equal false false e = (refl, refl)
 
 -- the order of two numbers
 abbrev byNumbers : ℕ → ℕ → Ordering

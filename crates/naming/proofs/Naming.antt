@@ -1,14 +1,14 @@
 -- One column's name in the joined table. Assumes nothing.
 use mathlib.Core.Path.{_≡_, refl, sym, ap₂, subst, _∙_}
 use mathlib.Core.List.{List, [], _∷_, _++_, append-assoc}
-use Prim.Native.Nat.{ℕ, suc, _+_, _*_, _^_, _≤_, _<_}
+use Prim.Native.Nat.{ℕ, _+_, _*_, _^_, _≤_, _<_}
 use native.Mathlib.Omega.{arith}
 use lib.ListN.{length, take, set, length-append}
 use lib.Seq.{length-take-le}
 use borrow.Author.Tests.{le-leb, lt-leb}
 use Rattle.slices.specs.Splice.{piece, Wrote}
 use Rattle.slices.proofs.Pieces.{piece-take, piece-length, piece-front}
-use Rattle.slices.proofs.Splice.{splice-set, splice-nil, wrote-length, wrote-then, wrote-kept, wrote-front}
+use Rattle.slices.proofs.Splice.{wrote-length, wrote-then, wrote-kept, wrote-front, wrote-one}
 use Rattle.cells.specs.Cell.{startOf, lengthOf, wordOf}
 use Rattle.cells.specs.declared.ValueRef.the-variants.{Str}
 use Rattle.naming.specs.OneSide.{named, prefixed, appended, nameOf}
@@ -25,10 +25,6 @@ new-word : (table stored : List ℕ) (word : ℕ) → (length table ≡ 0 → �
     → nameOf table stored word ≡ appended (prefixed table (piece (startOf word) (lengthOf word) stored)) stored
 new-word [] stored word n = absurd (n refl)
 new-word (b ∷ table) stored word n = refl
-
--- one element written
-wrote-one : (d : List ℕ) (at x : ℕ) → at < length d → Wrote d at (x ∷ []) (at + 1) (set d at x)
-wrote-one d at x h = record { room = omega arith; place = refl; list = sym (splice-nil (set d at x) (suc at)) ∙ splice-set d at x [] h }
 
 module _ (table x : List ℕ) (word top : ℕ) (asks : NameAsks word top (length x)) where
   -- the column's own name

@@ -1,11 +1,12 @@
 -- Bodies by kind, and known kinds. Assumes nothing.
-use mathlib.Core.Path.{_≡_, refl, sym, ap, _∙_}
+use mathlib.Core.Path.{_≡_, refl, sym, _∙_}
 use mathlib.Core.Bool.{Bool, true, false, not}
 use Prim.Native.Nat.{ℕ, _≤_, _<_}
 use native.Mathlib.Omega.{arith}
 use lib.Dec.{ltb}
 use borrow.Author.Tests.{le-ltb, lt-ltb, ltb-true, ltb-false}
-use Rattle.slices.specs.Bytes.{both}
+use Rattle.refusals.proofs.Bools.{true-false}
+use Rattle.slices.proofs.Both.{both-true}
 use Rattle.nodes.specs.Kind.{isKind, known, allows, bodyOf}
 use Rattle.nodes.specs.declared.Allowed.{Allowed}
 
@@ -26,16 +27,9 @@ module _ (k : ℕ) where
   unfolding bodyOf
   body-column e = rw e
 
-both-first : (a b : Bool) → both a b ≡ true → a ≡ true
-both-first true b e = refl
-both-first false b e = absurd (let z : _≡_ {A = ℕ} 0 1 = cc in omega arith)
-
 pub known-kind : (form : Allowed) (k : ℕ) → known form k ≡ true → isKind k ≡ true
 unfolding known
-known-kind form k h = both-first (isKind k) (allows form k) h
-
-no : {X : Type 0} → true ≡ false → X
-no e = absurd (let z : _≡_ {A = ℕ} 0 1 = cc in omega arith)
+known-kind form k h = both-true (isKind k) (allows form k) h .0
 
 -- the kinds between the leaves and the operators, and beyond, are none
 leaf-gap : (k : ℕ) → 5 ≤ k → k < 16 → isKind k ≡ false
@@ -58,7 +52,7 @@ module _ (k n : ℕ) (h : isKind k ≡ true) (gap : n ≤ k → isKind k ≡ fal
     where
       go : (x : Bool) → ltb k n ≡ x → k < n
       go true e = ltb-true k n e
-      go false e = no (sym h ∙ gap (ltb-false k n e))
+      go false e = true-false (sym h ∙ gap (ltb-false k n e))
 
 module _ (form : Allowed) (k : ℕ) (h : known form k ≡ true) where
   pub known-below : k < 50

@@ -1,12 +1,13 @@
 -- The operators by the kinds of their operands, and what leaves the text as it was. Assumes nothing.
-use mathlib.Core.Path.{_≡_, refl, sym, ap, _∙_}
+use mathlib.Core.Path.{_≡_, refl, sym, _∙_}
 use mathlib.Core.Bool.{Bool, true, false, not, cond}
 use mathlib.Core.List.{List}
 use Prim.Native.Nat.{ℕ, _≤_, _<_}
 use native.Mathlib.Omega.{arith}
-use lib.Dec.{ltb, leb, eqb}
+use lib.Dec.{leb, eqb}
 use lib.IntN.{ℤ, pos}
 use borrow.Author.Tests.{lt-ltb, le-ltb, eq-eqb, ne-eqb, eqb-true, eqb-false}
+use Rattle.refusals.proofs.Bools.{true-false}
 use Rattle.slices.specs.Bytes.{both}
 use Rattle.slices.specs.declared.Ordering.{Ordering}
 use Rattle.cells.specs.Cell.{kindOf, refOf}
@@ -74,9 +75,6 @@ either-null : (b : Bool) (o : Outcome) → o ≡ value null → cond b (value nu
 either-null true o e = refl
 either-null false o e = e
 
-no : {X : Type 0} → true ≡ false → X
-no e = let z : _≡_ {A = ℕ} 0 1 = ap (λ (b : Bool). cond b 0 1) e in absurd (omega arith)
-
 module _ (R : Rules) (op : ℕ) where
   pub binary-compared : (v w : Value) → op < 38 → binaryOf R op v w ≡ compared R op v w
   unfolding binaryOf
@@ -115,7 +113,7 @@ module _ (R : Rules) (op : ℕ) where
     pub binary-int-other : (x : ℤ) (w : Value) → isInt w ≡ false → binaryOf R op (int x) w ≡ value null
     unfolding onKinds
     binary-int-other x null e = nulls (int x) null refl
-    binary-int-other x (int y) e = no e
+    binary-int-other x (int y) e = true-false e
     binary-int-other x (str b) e = nulls (int x) (str b) refl
     binary-int-other x binary e = nulls (int x) binary refl
 
@@ -123,14 +121,14 @@ module _ (R : Rules) (op : ℕ) where
     unfolding onKinds
     binary-text-other a null e = nulls (str a) null refl
     binary-text-other a (int y) e = nulls (str a) (int y) refl
-    binary-text-other a (str b) e = no e
+    binary-text-other a (str b) e = true-false e
     binary-text-other a binary e = nulls (str a) binary refl
 
     pub binary-other : (v w : Value) → isInt v ≡ false → isStr v ≡ false → binaryOf R op v w ≡ value null
     unfolding onKinds
     binary-other null w e f = nulls null w refl
-    binary-other (int x) w e f = no e
-    binary-other (str a) w e f = no f
+    binary-other (int x) w e f = true-false e
+    binary-other (str a) w e f = true-false f
     binary-other binary w e f = nulls binary w refl
 
 -- ---- unary operators
@@ -141,7 +139,7 @@ unary-other R op v h k e = go (eqb op 16) refl
   where
     nothing : (f : ℤ → Outcome) (v : Value) → isInt v ≡ false → onInt f v ≡ value null
     nothing f null e = refl
-    nothing f (int x) e = no e
+    nothing f (int x) e = true-false e
     nothing f (str a) e = refl
     nothing f binary e = refl
 

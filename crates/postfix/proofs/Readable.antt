@@ -1,6 +1,6 @@
 -- Trees whose bytes can be read again: what a leaf's word and an operator must be. Assumes nothing.
 use mathlib.Core.Path.{_≡_, refl, sym, ap, ap₂, _∙_}
-use mathlib.Core.Bool.{Bool, true, false}
+use mathlib.Core.Bool.{true}
 use mathlib.Core.List.{List, _∷_, _++_, append-assoc}
 use Prim.Native.Nat.{ℕ, zero, suc, _+_, _*_, _^_, _≤_, _<_}
 use native.Mathlib.Omega.{arith}
@@ -9,7 +9,7 @@ use lib.ListN.{length, getD, take, drop, length-drop}
 use lib.Seq.{drop-drop, take-add}
 use lib.Dec.{leb}
 use borrow.Author.Tests.{le-leb, leb-true}
-use Rattle.slices.specs.Bytes.{both}
+use Rattle.slices.proofs.Both.{both-true}
 use Rattle.cells.specs.Cell.{kindOf, bodyOf, startOf, lengthOf}
 use Rattle.columns.specs.Column.{isNameLength}
 use Rattle.conditions.specs.Ast.{Tree, leaf, unary, binary}
@@ -125,11 +125,6 @@ leaf-readable form used k x l K h t n =
       text = λ q. rw (start-of k x b, length-of k x b) (t (sym e ∙ q));
       name = λ q. rw (start-of k x b, length-of k x b) (n (sym e ∙ q));
     }
-
--- both tests hold
-both-true : (x y : Bool) → both x y ≡ true → (x ≡ true) × (y ≡ true)
-both-true true y e = (refl, e)
-both-true false y e = absurd (let z : _≡_ {A = ℕ} 0 1 = cc in omega arith)
 
 -- what is read at a node of a leaf's kind
 pub record LeafRead (form : Allowed) (used : ℕ) (b : List ℕ) (at k : ℕ) : Type 0 where

@@ -25,7 +25,7 @@ pub use Rattle.postfix.proofs.Readable.{LeafReadable}
 unfoldable pub use Rattle.postfix.proofs.Readable.{Readable}
 
 -- an operator has no body
-body-operator : (k : ℕ) → 16 ≤ k → bodyOf k ≡ 0
+pub body-operator : (k : ℕ) → 16 ≤ k → bodyOf k ≡ 0
 unfolding bodyOf
 body-operator k h = rw (ne-eqb k 1 (λ e. omega arith), ne-eqb k 2 (λ e. omega arith), ne-eqb k 3 (λ e. omega arith), ne-eqb k 4 (λ e. omega arith))
 

@@ -8,6 +8,7 @@ use lib.ListN.{length, take, getD}
 use lib.Seq.{length-take-le}
 use borrow.Author.Tests.{lt-ltb, le-ltb, ne-eqb}
 use Rattle.cells.specs.Cell.{WellFormed, kindOf, startOf}
+use Rattle.cells.proofs.Stops.{inside-more}
 use Rattle.values.specs.Value.{Value, valueOf, toBool, fromBool}
 use Rattle.integers.specs.Outcome.{Outcome, value, gave, placed}
 use Rattle.integers.specs.declared.Answer.the-variants.{Gave}
@@ -18,7 +19,7 @@ use Rattle.conditions.specs.Ast.{leaf, unary, binary, eval, decides, twoSided}
 use Rattle.conditions.specs.Table.{nodeOf, leafOf, treeOf, LeafSound, SoundAt, Sound, rowOf, RowSound, LiesAt, LeafIs, Asks, Answers, Lies}
 use Rattle.conditions.specs.declared.Node.{Node}
 use Rattle.conditions.specs.declared.Node.the-variants.{Leaf, One, Two}
-use Rattle.conditions.proofs.Giving.{well-more, value-more}
+use Rattle.conditions.proofs.Giving.{value-more}
 use Rattle.conditions.proofs.Deciding.{holds-two-sided}
 use Rattle.conditions.proofs.Walk.{sound-step, tree-step}
 use Rattle.quick.specs.Quick.{none, Stands, Tells, Found}
@@ -166,7 +167,7 @@ module _ (R : Rules) (used top d k : ℕ) (nodes row text : List ℕ) (A : Asks 
           kept = refl;
           says = (
             f .means R ∙ ap value (sym (value-more used top text text r (A .marks) h refl)),
-            well-more used top r (A .marks) h,
+            inside-more used top r (A .marks) h,
             omega arith,
             omega arith,
           );

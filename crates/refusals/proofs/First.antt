@@ -1,9 +1,10 @@
 -- A check's answer, handed on before later checks are looked at, or passed by. Assumes nothing.
 use mathlib.Core.Path.{_≡_, refl, sym, ap, _∙_}
+use mathlib.Core.Bool.{Bool, true, false}
 use mathlib.Core.List.{List, [], _∷_}
 use Prim.Native.Nat.{ℕ}
 use native.Mathlib.Omega.{arith}
-use Rattle.refusals.specs.Stop.{Stop, never, stop, stopOf, checkedOf, orElse}
+use Rattle.refusals.specs.Stop.{Stop, never, stop, stopIf, stopOf, checkedOf, orElse}
 use Rattle.refusals.specs.declared.Refusal.{Refusal}
 use Rattle.refusals.specs.declared.Checked.{Checked}
 use Rattle.refusals.specs.declared.Checked.the-variants.{Sound, Refused}
@@ -28,3 +29,22 @@ module _ (a : Checked) (s later : Stop) where
 pub never-both : (s later : Stop) → orElse s later ≡ never → (s ≡ never) × (later ≡ never)
 never-both never later e = (refl, e)
 never-both (stop n p) later e = absurd (let z : _≡_ {A = ℕ} 0 1 = cc in omega arith)
+
+-- a check behind which there is none
+pub nothing-behind : (s : Stop) → orElse s never ≡ s
+nothing-behind never = refl
+nothing-behind (stop n p) = refl
+
+-- checks in a row, however they are taken together
+pub in-a-row : (a b c : Stop) → orElse (orElse a b) c ≡ orElse a (orElse b c)
+in-a-row never b c = refl
+in-a-row (stop n p) b c = refl
+
+-- a test that stops nothing fails
+pub not-stopped : (b : Bool) (number place : ℕ) → stopIf b number place ≡ never → b ≡ false
+not-stopped true number place e = absurd (let z : _≡_ {A = ℕ} 0 1 = cc in omega arith)
+not-stopped false number place e = refl
+
+-- the first check that stops decides
+pub first-stops : (s later : Stop) (r : Refusal) → s ≡ stopOf r → orElse s later ≡ stopOf r
+first-stops s later r e = ap (λ x. orElse x later) e

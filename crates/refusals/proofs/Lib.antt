@@ -2,3 +2,4 @@
 pub mod Unique
 pub mod First
 pub mod Counting
+pub mod Bools

@@ -1,6 +1,6 @@
 -- Folded trees in the output: an operator over them gives way to its value, or is written after them. Assumes nothing.
 use mathlib.Core.Path.{_≡_, refl, sym, ap, ap₂, subst, _∙_}
-use mathlib.Core.Bool.{Bool, true, false, cond}
+use mathlib.Core.Bool.{Bool, true, false}
 use mathlib.Core.List.{List, [], _∷_, _++_, append-assoc, append-nil}
 use Prim.Native.Nat.{ℕ, suc, _+_, _*_, _^_, _/_, _≤_, _<_}
 use native.Mathlib.Omega.{arith}
@@ -13,6 +13,7 @@ use Rattle.refusals.specs.declared.Refusal.{Refusal}
 use Rattle.slices.specs.Splice.{splice, Wrote}
 use Rattle.slices.specs.Bytes.{both}
 use Rattle.slices.proofs.Splice.{wrote-front, front-splice, take-splice}
+use Rattle.slices.proofs.Both.{both-true}
 use Rattle.cells.specs.Cell.{WellFormed, kindOf, startOf, lengthOf, wordOf}
 use Rattle.values.specs.Value.{Value, null, int, str, valueOf}
 use Rattle.integers.specs.Outcome.{Outcome, value, Reply, gave, replyOf, cellAt, rise, placed}
@@ -203,10 +204,6 @@ applied-kept before after top r o h A = ap (take top) (A .text) ∙ by o
     by (value (str b)) = take-splice before top b h
     by (value Value.binary) = refl
     by (Outcome.refused n) = refl
-
-both-true : (a b : Bool) → both a b ≡ true → (a ≡ true) × (b ≡ true)
-both-true true b e = (refl, e)
-both-true false b e = absurd (let z : _≡_ {A = ℕ} 0 1 = cc in omega arith)
 
 module _ (R : Rules) (op place start left right end top : ℕ) (x y : Tree ℕ) (s before front out : List ℕ) (S : StandTwo front x y s left right end out) (T : Stored before s top) where
   abbrev test : Bool

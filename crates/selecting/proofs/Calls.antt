@@ -9,6 +9,7 @@ use lib.Dec.{leb, eqb}
 use borrow.Author.Tests.{leb-true}
 use Rattle.refusals.specs.Stop.{Stop, never, stop, stopOf, orElse}
 use Rattle.refusals.specs.declared.Refusal.{Refusal}
+use Rattle.refusals.proofs.First.{first-stops}
 use Rattle.slices.specs.Splice.{splice}
 use Rattle.writing.specs.Writing.{WrittenIs}
 use Rattle.writing.specs.declared.Written.{Written}
@@ -31,10 +32,6 @@ use Rattle.keeping.specs.Kept.{KeptAsks}
 use Rattle.keeping.proofs.Passing.{Passed}
 
 -- ---- stops in a row
-
--- the first stop
-pub first-stops : (s later : Stop) (r : Refusal) → s ≡ stopOf r → orElse s later ≡ stopOf r
-first-stops s later r e = ap (λ x. orElse x later) e
 
 -- one of two stops, and more behind them
 pub two-stop : (s t later : Stop) (r : Refusal) → orElse s t ≡ stopOf r → orElse s (orElse t later) ≡ stopOf r

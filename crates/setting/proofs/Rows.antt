@@ -17,7 +17,7 @@ use Rattle.writing.specs.declared.Written.the-variants.{Count, Refused}
 use Rattle.writing.proofs.Answers.{refused-is}
 use Rattle.marking.specs.RowList.{keptFrom, wordsOf}
 use Rattle.marking.specs.Marks.{part}
-use Rattle.marking.proofs.Lists.{kept-below, words-length}
+use Rattle.marking.proofs.Lists.{kept-below, words-length, kept-all}
 use Rattle.marking.proofs.Marking.{row-inside, rowRead, row-read}
 use Rattle.projecting.proofs.Turns.{Writing, row-room, writing-turn}
 use Rattle.keeping.specs.Table.{shortStop}
@@ -71,12 +71,6 @@ row-length sets row mark = by (eqb mark 1)
     by false = refl
 
 -- ---- all rows
-
--- every row is kept
-pub kept-all : (i n : ℕ) → length (keptFrom (λ j. true) i n) ≡ n
-unfolding keptFrom
-kept-all i zero = refl
-kept-all i (suc n) = ap suc (kept-all (suc i) n)
 
 -- rows that agree where they are asked have the same words
 pub all-same : (f g : ℕ → List ℕ) (i n : ℕ) → ((j : ℕ) → i ≤ j → j < i + n → f j ≡ g j)

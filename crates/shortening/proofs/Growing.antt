@@ -8,11 +8,12 @@ use native.Mathlib.Omega.{arith}
 use lib.ListN.{length, length-append}
 use lib.Dec.{eqb}
 use Rattle.cells.specs.Cell.{WellFormed, kindOf, startOf, lengthOf, wordOf}
+use Rattle.cells.proofs.Stops.{inside-more}
 use Rattle.values.specs.Value.{Value}
 use Rattle.integers.specs.Outcome.{cellAt}
 use Rattle.operators.specs.declared.Rules.{Rules}
 use Rattle.conditions.specs.Ast.{Tree, leaf, unary, binary, size, height, joins}
-use Rattle.conditions.proofs.Giving.{well-more}
+use Rattle.conditions.proofs.Walk.{height-pos, size-pos}
 use Rattle.forms.specs.Held.{LeafHeld}
 use Rattle.replacing.specs.Walk.{AllHeld, Literal}
 use Rattle.replacing.specs.Fold.{folded, appended, fold}
@@ -42,7 +43,7 @@ leaf-higher m n w l = by (eqb (kindOf w) 4) (eqb (kindOf w) 3)
     by : (x y : Bool) → cond x (Unit {0}) (cond y (startOf w + lengthOf w ≤ m) (WellFormed m w)) → cond x (Unit {0}) (cond y (startOf w + lengthOf w ≤ n) (WellFormed n w))
     by true y h = tt
     by false true h = omega arith
-    by false false h = well-more m n w l h
+    by false false h = inside-more m n w l h
 
 -- and so is a whole tree
 pub held-higher : (m n : ℕ) (t : Tree ℕ) → m ≤ n → AllHeld m t → AllHeld n t
@@ -66,20 +67,6 @@ pub longer : {s s′ : List ℕ} → Extends s s′ → length s ≤ length s′
 longer {s} m = omega (arith, ap length (m .whole), length-append s (m .new))
 
 -- ---- trees
-
--- no tree is lower than a leaf
-height-pos : (t : Tree ℕ) → 1 ≤ height t
-unfolding height
-height-pos (leaf w) = omega arith
-height-pos (unary op a) = omega arith
-height-pos (binary op a b) = omega arith
-
--- no tree has fewer nodes than a leaf
-size-pos : (t : Tree ℕ) → 1 ≤ size t
-unfolding size
-size-pos (leaf w) = omega arith
-size-pos (unary op a) = omega arith
-size-pos (binary op a b) = omega arith
 
 -- ---- by the ways of folding
 

@@ -2,3 +2,4 @@
 pub mod Splice
 pub mod Pieces
 pub mod Bytes
+pub mod Both

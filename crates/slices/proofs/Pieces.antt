@@ -27,3 +27,9 @@ module _ {A : Type 0} where
   -- two lists with one front have the same parts there
   pub piece-front : (m s n : ℕ) (k l : List A) → s + n ≤ m → take m k ≡ take m l → piece s n k ≡ piece s n l
   piece-front m s n k l h e = sym (piece-take m s n k h) ∙ ap (piece s n) e ∙ piece-take m s n l h
+
+-- a front is as long as it is
+pub take-own : (n : ℕ) (l : List ℕ) → take (length (take n l)) l ≡ take n l
+take-own zero l = refl
+take-own (suc n) [] = refl
+take-own (suc n) (x ∷ l) = ap (λ y. x ∷ y) (take-own n l)

@@ -112,3 +112,7 @@ module _ {A : Type 0} where
         ∙ take-take at (at + i) (splice out (at + i) (drop i src)) (omega arith)
         ∙ ap (take at) (c .list)
         ∙ take-splice d at src (omega arith)
+
+-- one element written
+pub wrote-one : (d : List ℕ) (at x : ℕ) → at < length d → Wrote d at (x ∷ []) (at + 1) (set d at x)
+wrote-one d at x h = record { room = omega arith; place = refl; list = sym (splice-nil (set d at x) (suc at)) ∙ splice-set d at x [] h }

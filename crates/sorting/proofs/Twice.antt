@@ -6,11 +6,13 @@ use Prim.Native.Nat.{ℕ, zero, suc, _+_, _-_, _≤_, _<_}
 use native.Mathlib.Nat.{eq-or-lt-of-le}
 use native.Mathlib.Omega.{arith}
 use Rattle.refusals.specs.Stop.{never, stopIf, orElse}
-use Rattle.refusals.proofs.First.{never-both}
+use Rattle.refusals.proofs.First.{never-both, not-stopped}
+use Rattle.refusals.proofs.Bools.{true-false}
 use Rattle.slices.specs.declared.Ordering.{Ordering}
 use Rattle.slices.specs.declared.Ordering.the-variants.{Less, Equal}
+use Rattle.values.proofs.Ordered.{not-less}
 use Rattle.sorting.specs.Sorted.{Compare, isLess, isEqual, ascends, keyAmong, doubleStop, newStop}
-use Rattle.sorting.proofs.Lawful.{Lawful, less-equal, less-true, equal-false, equal-true, true-false}
+use Rattle.sorting.proofs.Lawful.{Lawful, less-true, equal-false, equal-true}
 
 -- of n rows no two have one key
 abbrev pub Distinct : Compare → ℕ → Type 0
@@ -50,11 +52,6 @@ none-among c i from (suc n) h =
     (none-among c i (suc from) n (λ j l k. h j (omega arith) (omega arith)))
 
 -- ---- every row
-
--- a stop that doesn't stop
-not-stopped : (b : Bool) (number place : ℕ) → stopIf b number place ≡ never → b ≡ false
-not-stopped true number place e = absurd (let z : _≡_ {A = ℕ} 0 1 = cc in omega arith)
-not-stopped false number place e = refl
 
 -- no row stops: the search before each one found nothing
 passes : (c : Compare) (i n : ℕ) → doubleStop c i n ≡ never → (j : ℕ) → i ≤ j → j < i + n → keyAmong c j 0 j ≡ false
@@ -136,4 +133,4 @@ module _ (c : Compare) (n : ℕ) (L : Lawful c n) (e : ascends c 0 n ≡ true) w
 
   -- so no two have one key
   pub ascends-never : doubleStop c 0 n ≡ never
-  ascends-never = never-double c n (λ i j h k q. less-equal (sym (ascends-less i j h k) ∙ q))
+  ascends-never = never-double c n (λ i j h k q. not-less (sym (ascends-less i j h k) ∙ q))

@@ -11,7 +11,9 @@ use Rattle.puts.proofs.Putting.{puts-then, either}
 use Rattle.conditions.specs.Ast.{Tree, leaf, unary, binary, mapTree, size, height}
 use Rattle.conditions.specs.Table.{nodeOf, leafOf}
 use Rattle.conditions.specs.declared.Node.the-variants.{Leaf, One, Two}
-use Rattle.forms.specs.Held.{LeafHeld, Denotes}
+use Rattle.conditions.proofs.Walk.{height-pos}
+use Rattle.forms.specs.Held.{LeafHeld}
+use Rattle.forms.proofs.Denoting.{leaf-at, one-at, two-at}
 use Rattle.signs.specs.Sign.{precedence, spaced, prefix}
 use Rattle.signs.proofs.Lengths.{spaced-short, prefix-short}
 use Rattle.spelling.specs.Spell.{parenthesised, printedAtom, printed}
@@ -40,42 +42,6 @@ printed-short stored asked (binary op a b) =
     let y : List ℕ = printed (precedence op + 1) (mapTree (leafOf stored) b) in
     omega (arith, around (ltb (precedence op) asked) (x ++ (spaced op ++ y)), length-append x (spaced op ++ y), length-append (spaced op) y, spaced-short op, printed-short stored (precedence op) a, printed-short stored (precedence op + 1) b)
 
--- ---- the tree by its last node
-
--- every tree has a height
-height-pos : (t : Tree ℕ) → 0 < height t
-unfolding height
-height-pos (leaf w) = omega arith
-height-pos (unary op a) = omega arith
-height-pos (binary op a b) = omega arith
-
-module _ (used : ℕ) (nodes : List ℕ) (k : ℕ) where
-  -- a leaf
-  at-leaf : (w : ℕ) → nodeOf (getD nodes k 0) ≡ Leaf w → (t : Tree ℕ) → Denotes used nodes k t → (t ≡ leaf w) × LeafHeld used w
-  unfolding Denotes
-  at-leaf w e (leaf x) h = let q : x ≡ w = (let p = h .0 in cc) in (ap leaf q, rw q at (h .1))
-  at-leaf w e (unary op a) h = absurd (let p = h .0 in let z : _≡_ {A = ℕ} 0 1 = cc in omega arith)
-  at-leaf w e (binary op a b) h = absurd (let p = h .1 in let z : _≡_ {A = ℕ} 0 1 = cc in omega arith)
-
-  -- an operator over one operand
-  at-one : (op : ℕ) → nodeOf (getD nodes k 0) ≡ One op → (t : Tree ℕ) → Denotes used nodes k t
-      → (a : Tree ℕ) × (t ≡ unary op a) × (0 < k) × Denotes used nodes (k - 1) a
-  unfolding Denotes
-  at-one op e (leaf x) h = absurd (let p = h .0 in let z : _≡_ {A = ℕ} 0 1 = cc in omega arith)
-  at-one op e (unary o a) h = let q : o ≡ op = (let p = h .0 in cc) in (a, ap (λ x. unary x a) q, h .2, h .3)
-  at-one op e (binary o a b) h = absurd (let p = h .1 in let z : _≡_ {A = ℕ} 0 1 = cc in omega arith)
-
-  -- an operator over two
-  at-two : (op l : ℕ) → nodeOf (getD nodes k 0) ≡ Two op l → (t : Tree ℕ) → Denotes used nodes k t
-      → (a : Tree ℕ) × (b : Tree ℕ) × (t ≡ binary op a b) × (l < k) × Denotes used nodes l a × Denotes used nodes (k - 1) b
-  unfolding Denotes
-  at-two op l e (leaf x) h = absurd (let p = h .0 in let z : _≡_ {A = ℕ} 0 1 = cc in omega arith)
-  at-two op l e (unary o a) h = absurd (let p = h .0 in let z : _≡_ {A = ℕ} 0 1 = cc in omega arith)
-  at-two op l e (binary o a b) h =
-      let q : o ≡ op = (let p = h .1 in cc) in
-      let r : h .0 ≡ l = (let p = h .1 in cc) in
-      (a, b, ap (λ x. binary x a b) q, rw r at (h .3), rw r at (h .4), h .5)
-
 -- ---- the walk
 
 module _ {stored nodes : List ℕ} {k depth at : ℕ} {t : Tree ℕ} (A : PrintAsks stored nodes k depth at t) where
@@ -94,7 +60,7 @@ module _ {stored nodes : List ℕ} {k depth at : ℕ} {t : Tree ℕ} (A : PrintA
   module _ {w : ℕ} (e : nodeOf (getD nodes k 0) ≡ Leaf w) where
     -- the tree is the leaf
     is-leaf : (t ≡ leaf w) × LeafHeld (length stored) w
-    is-leaf = at-leaf (length stored) nodes k w e t (A .denotes)
+    is-leaf = leaf-at (length stored) k nodes t w (A .denotes) e
 
     -- what the leaf asks
     pub leaf-asks : LeafHeld (length stored) w × (at + 400000 < 2 ^ 64)
@@ -109,15 +75,15 @@ module _ {stored nodes : List ℕ} {k depth at : ℕ} {t : Tree ℕ} (A : PrintA
   module _ {op : ℕ} (e : nodeOf (getD nodes k 0) ≡ One op) where
     -- the operand
     abbrev only : Tree ℕ
-    only = at-one (length stored) nodes k op e t (A .denotes) .0
+    only = one-at (length stored) k nodes t op (A .denotes) e .only
 
     -- the tree is the operator over it
     one-tree : t ≡ unary op only
-    one-tree = at-one (length stored) nodes k op e t (A .denotes) .1
+    one-tree = one-at (length stored) k nodes t op (A .denotes) e .whole
 
     -- the operand stands before it
     pub one-below : 0 < k
-    one-below = at-one (length stored) nodes k op e t (A .denotes) .2
+    one-below = one-at (length stored) k nodes t op (A .denotes) e .below
 
     -- one node more
     one-size : size t ≡ size only + 1
@@ -137,7 +103,7 @@ module _ {stored nodes : List ℕ} {k depth at : ℕ} {t : Tree ℕ} (A : PrintA
       -- what the operand asks
       only-asks : PrintAsks stored nodes (k - 1) (depth - 1) next only
       only-asks = record {
-        denotes = at-one (length stored) nodes k op e t (A .denotes) .3;
+        denotes = one-at (length stored) k nodes t op (A .denotes) e .denotes;
         deep = omega (arith, one-height, A .deep);
         inside = omega (arith, A .inside);
         room = omega (arith, one-size, A .room, p .place, prefix-short op);
@@ -156,19 +122,19 @@ module _ {stored nodes : List ℕ} {k depth at : ℕ} {t : Tree ℕ} (A : PrintA
   module _ {op l : ℕ} (e : nodeOf (getD nodes k 0) ≡ Two op l) where
     -- the left operand
     abbrev left : Tree ℕ
-    left = at-two (length stored) nodes k op l e t (A .denotes) .0
+    left = two-at (length stored) k nodes t op l (A .denotes) e .left
 
     -- the right operand
     abbrev right : Tree ℕ
-    right = at-two (length stored) nodes k op l e t (A .denotes) .1
+    right = two-at (length stored) k nodes t op l (A .denotes) e .right
 
     -- the tree is the operator over them
     two-tree : t ≡ binary op left right
-    two-tree = at-two (length stored) nodes k op l e t (A .denotes) .2
+    two-tree = two-at (length stored) k nodes t op l (A .denotes) e .whole
 
     -- the left operand stands before it
     left-below : l < k
-    left-below = at-two (length stored) nodes k op l e t (A .denotes) .3
+    left-below = two-at (length stored) k nodes t op l (A .denotes) e .below
 
     -- so does the right one
     pub two-below : 0 < k
@@ -197,7 +163,7 @@ module _ {stored nodes : List ℕ} {k depth at : ℕ} {t : Tree ℕ} (A : PrintA
       -- what the left operand asks
       left-asked : PrintAsks stored nodes l (depth - 1) from left
       left-asked = record {
-        denotes = at-two (length stored) nodes k op l e t (A .denotes) .4;
+        denotes = two-at (length stored) k nodes t op l (A .denotes) e .left-denotes;
         deep = omega (arith, two-height, A .deep);
         inside = omega (arith, A .inside, left-below);
         room = omega (arith, two-size, A .room, from-near);
@@ -226,7 +192,7 @@ module _ {stored nodes : List ℕ} {k depth at : ℕ} {t : Tree ℕ} (A : PrintA
           -- what the right operand asks
           right-asked : PrintAsks stored nodes (k - 1) (depth - 1) next right
           right-asked = record {
-            denotes = at-two (length stored) nodes k op l e t (A .denotes) .5;
+            denotes = two-at (length stored) k nodes t op l (A .denotes) e .right-denotes;
             deep = omega (arith, two-height, A .deep);
             inside = omega (arith, A .inside);
             room = omega (arith, two-size, A .room, next-near);

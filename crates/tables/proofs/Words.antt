@@ -1,26 +1,19 @@
 -- The first fault of the words given, one list after another. Assumes nothing.
-use mathlib.Core.Path.{_≡_, refl, sym, ap, _∙_}
+use mathlib.Core.Path.{_≡_, refl, sym, _∙_}
 use mathlib.Core.Bool.{Bool, true, false}
 use mathlib.Core.List.{List, [], _∷_}
-use Prim.Native.Nat.{ℕ, zero, _+_, _*_, _/_, _%_, _≤_, _<_}
+use Prim.Native.Nat.{ℕ, _+_, _*_, _/_, _%_, _≤_}
 use native.Mathlib.Omega.{arith}
+use native.Mathlib.Nat.{div-add-mod'}
 use lib.ListN.{length}
-use lib.Dec.{ltb, leb, eqb}
+use lib.Dec.{leb, eqb}
 use borrow.Author.Tests.{eqb-true, leb-true, leb-false, le-leb, lt-leb}
-use Rattle.refusals.specs.Stop.{Stop, never, stop, orElse}
-use Rattle.refusals.proofs.First.{never-both}
-use Rattle.slices.specs.Bytes.{both}
+use Rattle.refusals.specs.Stop.{never, orElse}
+use Rattle.refusals.proofs.First.{never-both, nothing-behind, in-a-row}
+use Rattle.slices.proofs.Both.{both-true}
 use Rattle.columns.specs.Column.{columnsStop}
 use Rattle.checks.specs.Check.{cellsStop}
-use Rattle.tables.specs.Table.{columnCount, isColumnCount, isTable, areRows, columnWordsStop, cellWordsStop, total, wordsStop}
-
-last : (s : Stop) → orElse s never ≡ s
-last never = refl
-last (stop number place) = refl
-
-assoc : (a b c : Stop) → orElse (orElse a b) c ≡ orElse a (orElse b c)
-assoc never b c = refl
-assoc (stop number place) b c = refl
+use Rattle.tables.specs.Table.{columnCount, isColumnCount, isTable, areRows, countStop, columnWordsStop, cellWordsStop, total, wordsStop}
 
 -- two column tables and two tables of rows, one check after another
 pub words-are : (used : ℕ) (left right first second : List ℕ) →
@@ -32,8 +25,8 @@ unfolding columnWordsStop cellWordsStop
 words-are used left right first second =
     let n : length left + (length right + 0) ≡ length left + length right = omega arith in
     let z : 0 + length left ≡ length left = omega arith in
-    rw (n, z, last (columnsStop used (length left) right), last (cellsStop used (length left + length right + length first) second))
-    (assoc (columnsStop used 0 left) (columnsStop used (length left) right) (orElse (cellsStop used (length left + length right) first) (cellsStop used (length left + length right + length first) second)))
+    rw (n, z, nothing-behind (columnsStop used (length left) right), nothing-behind (cellsStop used (length left + length right + length first) second))
+    (in-a-row (columnsStop used 0 left) (columnsStop used (length left) right) (orElse (cellsStop used (length left + length right) first) (cellsStop used (length left + length right + length first) second)))
 
 -- a list that isn't given has no fault
 pub no-columns : (used place : ℕ) → columnsStop used place [] ≡ never
@@ -56,10 +49,6 @@ words-sound used left right first second h =
 
 -- ---- counts
 
-both-true : (a b : Bool) → both a b ≡ true → (a ≡ true) × (b ≡ true)
-both-true true b e = (refl, e)
-both-true false b e = absurd (let z : _≡_ {A = ℕ} 0 1 = cc in omega arith)
-
 -- a table has 2 to 64 words, two a column
 pub record Counted (columns : List ℕ) : Type 0 where
   pub whole : length columns ≡ 2 * columnCount columns
@@ -80,3 +69,15 @@ halves n e = by (leb n 64) refl
     by : (x : Bool) → leb n 64 ≡ x → x ≡ leb (n / 2) 32
     by true q = sym (le-leb (n / 2) 32 (omega (arith, leb-true n 64 q)))
     by false q = sym (lt-leb (n / 2) 32 (omega (arith, leb-false n 64 q)))
+
+-- counts that don't stop are right
+pub count-right : (x : Bool) → countStop x ≡ never → x ≡ true
+count-right true e = refl
+count-right false e = absurd (let z : _≡_ {A = ℕ} 0 1 = cc in omega arith)
+
+-- a whole number of rows
+pub rows-whole : (width : ℕ) (rows : List ℕ) → areRows width rows ≡ true → (length rows ≡ length rows / width * width) × (length rows / width ≤ 4096)
+unfolding areRows
+rows-whole width rows e =
+    let h = both-true (eqb (length rows % width) 0) _ e in
+    (omega (arith, div-add-mod' (length rows) width, eqb-true (length rows % width) 0 (h .0)), leb-true (length rows / width) 4096 (h .1))

@@ -9,6 +9,7 @@ use lib.Seq.{length-take-le}
 use lib.Dec.{eqb}
 use Rattle.refusals.specs.Stop.{Stop, never, stopOf}
 use Rattle.refusals.specs.declared.Refusal.{Refusal}
+use Rattle.refusals.proofs.First.{first-stops}
 use Rattle.writing.specs.Writing.{WrittenIs}
 use Rattle.writing.specs.declared.Written.{Written}
 use Rattle.writing.specs.declared.Written.the-variants.{Refused}
@@ -22,7 +23,7 @@ use Rattle.marking.specs.declared.Marked.{Marked}
 use Rattle.marking.specs.declared.Marked.the-variants.{Rows}
 use Rattle.marking.proofs.Lists.{mark-at}
 use Rattle.keeping.specs.Table.{shortStop}
-use Rattle.selecting.proofs.Calls.{Question, widthOf, countOf, testFor, TableStop, PassedBy, MarkedBy, first-stops, written-as, refused-rows, says, passed-rows}
+use Rattle.selecting.proofs.Calls.{Question, widthOf, countOf, testFor, TableStop, PassedBy, MarkedBy, written-as, refused-rows, says, passed-rows}
 use Rattle.setting.specs.Sets.{areSets, setsStop, applied}
 use Rattle.updating.specs.Update.{updated, UpdateIs}
 use Rattle.setting.specs.Asked.{allWords, AllAsked}

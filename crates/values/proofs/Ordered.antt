@@ -1,17 +1,16 @@
 -- Laws of the order of values: equal means same kind and content. Assumes nothing.
-use mathlib.Core.Path.{_≡_, refl, sym, ap, ap₂, _∙_}
-use mathlib.Core.List.{List, [], _∷_}
+use mathlib.Core.Path.{_≡_, refl, ap, ap₂, _∙_}
 use mathlib.Core.Bool.{Bool, true, false}
-use Prim.Native.Nat.{ℕ, _≤_}
+use Prim.Native.Nat.{ℕ}
 use native.Mathlib.Omega.{arith}
 use native.Mathlib.Nat.{le-antisymm}
 use lib.IntN.{ℤ, pos, negsuc}
 use lib.Signed.{ltZ}
-use lib.Dec.{ltb}
 use borrow.Author.Tests.{le-ltb, ltb-false}
 use mir.Syntax.{w32}
 use mir.Val.{SFits, ofZ, toZ}
 use mir.Facts.{toZ-ofZ}
+use Rattle.refusals.proofs.Bools.{true-false}
 use Rattle.slices.specs.Bytes.{byTests, byBytes}
 use Rattle.slices.proofs.Bytes.{bytes-self, bytes-equal}
 use Rattle.slices.specs.declared.Ordering.{Ordering}
@@ -56,24 +55,21 @@ order-self binary = refl
 -- ---- and to no other
 
 -- Less and Greater are not Equal
-not-less : {X : Type 0} → Less ≡ Equal → X
+pub not-less : {X : Type 0} → Less ≡ Equal → X
 not-less e = absurd (let z : _≡_ {A = ℕ} 0 1 = cc in omega arith)
 
 not-greater : {X : Type 0} → Greater ≡ Equal → X
 not-greater e = absurd (let z : _≡_ {A = ℕ} 0 1 = cc in omega arith)
 
-tests-equal : (s t : Bool) → byTests s t Equal ≡ Equal → (s ≡ false) × (t ≡ false)
+pub tests-equal : (s t : Bool) → byTests s t Equal ≡ Equal → (s ≡ false) × (t ≡ false)
 tests-equal true t e = not-less e
 tests-equal false true e = not-greater e
 tests-equal false false e = (refl, refl)
 
-no-test : {X : Type 0} → true ≡ false → X
-no-test e = absurd (let z : _≡_ {A = ℕ} 0 1 = cc in omega arith)
-
 neither : (x y : ℤ) → ltZ x y ≡ false → ltZ y x ≡ false → x ≡ y
 neither (pos a) (pos b) e f = ap pos (le-antisymm (ltb-false b a f) (ltb-false a b e))
-neither (pos a) (negsuc b) e f = no-test f
-neither (negsuc a) (pos b) e f = no-test e
+neither (pos a) (negsuc b) e f = true-false f
+neither (negsuc a) (pos b) e f = true-false e
 neither (negsuc a) (negsuc b) e f = ap negsuc (le-antisymm (ltb-false b a e) (ltb-false a b f))
 
 int-equal : (x y : ℤ) → byInts x y ≡ Equal → x ≡ y

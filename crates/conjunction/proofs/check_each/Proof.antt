@@ -3,8 +3,8 @@ use denote.Ref.{now}
 use mathlib.Core.Path.{_≡_, sym, ap, _∙_}
 use native.Mathlib.Omega.{arith}
 use Rattle.refusals.specs.Stop.{orElse, never}
-use Rattle.refusals.proofs.First.{refused-first, sound-first, told-sound}
-use Rattle.conjunction.proofs.Stopping.{old-short, last-first}
+use Rattle.refusals.proofs.First.{refused-first, sound-first, told-sound, nothing-behind}
+use Rattle.conjunction.proofs.Stopping.{old-short}
 use borrow.Author.Needs.{needs}
 use Rattle.conjunction.proofs.check_each.Statement.{statement}
 use Rattle.conjunction.proofs.check_each.Tie as tie
@@ -49,7 +49,7 @@ check-form-requires : tie.Need-check-form-requires
 check-form-requires c κs = omega (arith, old-short (c .before .before .before .before .before .before .before .before .before .before .before .args .used) (now (c .before .before .before .before .before .before .before .before .before .before .before .args .old)) (told-sound _ _ (c .enum-told5 .given .1) (c .before .before .check-old .ensures)))
 
 returns-4 : tie.Need-returns-4
-returns-4 c = c .check-form .ensures ∙ sym (last-first _) ∙ sym (sound-first _ _ _ (c .before .enum-told5 .given .1) (c .before .before .before .check-old .ensures)) ∙ sym (sound-first _ _ _ (c .before .before .before .before .enum-told3 .given .1) (c .before .before .before .before .before .before .check-output .ensures)) ∙ sym (sound-first _ _ _ (c .before .before .before .before .before .before .before .enum-told .given .1) (c .before .before .before .before .before .before .before .before .before .check-room .ensures))
+returns-4 c = c .check-form .ensures ∙ sym (nothing-behind _) ∙ sym (sound-first _ _ _ (c .before .enum-told5 .given .1) (c .before .before .before .check-old .ensures)) ∙ sym (sound-first _ _ _ (c .before .before .before .before .enum-told3 .given .1) (c .before .before .before .before .before .before .check-output .ensures)) ∙ sym (sound-first _ _ _ (c .before .before .before .before .before .before .before .enum-told .given .1) (c .before .before .before .before .before .before .before .before .before .check-room .ensures))
 
 pub check-each-spec : {M : Type 1} → statement M
 check-each-spec =
