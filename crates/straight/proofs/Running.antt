@@ -24,7 +24,7 @@ use Rattle.forms.proofs.Numbers.{numbers-turn, numbers-end}
 use Rattle.wordwise.specs.Settled.{nothing, Settled, onBoth, IsTwoSided}
 use Rattle.straight.specs.Straight.{LeafRead, IsWhole, Ran}
 use Rattle.straight.proofs.Reading.{leaf-is}
-use Rattle.straight.proofs.Stacking.{Valued, Stacked, valued-leaf, valued-two, stacked-more, push}
+use Rattle.straight.proofs.Stacking.{Valued, Stacked, Topped, valued-leaf, valued-two, stacked-more, push}
 
 -- how many nodes a stack's trees have
 unfoldable pub total : List (Tree ℕ) → ℕ
@@ -39,16 +39,16 @@ pub record Reached (b row stored : List ℕ) (n done at m : ℕ) (s : List (Tree
   pub most : m ≤ n + (done + done)
   pub nodes : total s ≡ m
 
-pub record Running (b row stored stack : List ℕ) (n done at : ℕ) : Type 0 where
+pub record Running (b row stored stack : List ℕ) (top n done at : ℕ) : Type 0 where
   pub long : length stack ≡ 16
   pub few : n ≤ 16
   pub worked : done ≤ at
   pub inside : at ≤ length b
-  pub same : (m : ℕ) × (s : List (Tree ℕ)) × Stacked stored row stack (done + 1) n s × Reached b row stored n done at m s
+  pub same : (m : ℕ) × (s : List (Tree ℕ)) × Topped stored row stack top (done + 1) n s × Reached b row stored n done at m s
 
-pub run-start : (b row stored stack : List ℕ) → length stack ≡ 16 → Running b row stored stack 0 0 0
-unfolding Stacked total
-run-start b row stored stack h = record {
+pub run-start : (b row stored stack : List ℕ) (top : ℕ) → length stack ≡ 16 → Running b row stored stack top 0 0 0
+unfolding Topped total
+run-start b row stored stack top h = record {
   long = h;
   few = omega arith;
   worked = omega arith;
@@ -70,7 +70,7 @@ no-body : (k : ℕ) → 5 ≤ k → bodyOf k ≡ 0
 unfolding bodyOf
 no-body k h = rw (ne-eqb k 1 (λ x. omega arith), ne-eqb k 2 (λ x. omega arith), ne-eqb k 3 (λ x. omega arith), ne-eqb k 4 (λ x. omega arith))
 
-module _ (b row stored stack : List ℕ) (n done at : ℕ) (S : Running b row stored stack n done at) where
+module _ (b row stored stack : List ℕ) (top n done at : ℕ) (S : Running b row stored stack top n done at) where
   abbrev used : ℕ
   used = length stored
 
@@ -80,7 +80,7 @@ module _ (b row stored stack : List ℕ) (n done at : ℕ) (S : Running b row st
   abbrev s : List (Tree ℕ)
   s = S .same .1
 
-  held : Stacked stored row stack (done + 1) n s
+  held : Topped stored row stack top (done + 1) n s
   held = S .same .2
 
   so-far : Reached b row stored n done at m s
@@ -107,7 +107,7 @@ module _ (b row stored stack : List ℕ) (n done at : ℕ) (S : Running b row st
       pub leaf-room : n < 16
       leaf-room = let f = S .few in omega arith
 
-      pub run-leaf : Running b row stored (set stack n r) (n + 1) done (at + 1 + bodyOf k)
+      pub run-leaf : Running b row stored (set stack n top) r (n + 1) done (at + 1 + bodyOf k)
       unfolding total size
       run-leaf = record {
         long = simp length-set (S .long);
@@ -117,7 +117,7 @@ module _ (b row stored stack : List ℕ) (n done at : ℕ) (S : Running b row st
         same = (
           m + 1,
           leaf (leafWord b at k) ∷ s,
-          push stored row (done + 1) stack n r (leaf (leafWord b at k)) s (omega (arith, leaf-room, S .long)) (valued-leaf stored row (done + 1) (leafWord b at k) r (omega arith) (leaf-is used at b row B rows k r l (sym e) R)) held,
+          push stored row (done + 1) stack top n r (leaf (leafWord b at k)) s (omega (arith, leaf-room, S .long)) (valued-leaf stored row (done + 1) (leafWord b at k) r (omega arith) (leaf-is used at b row B rows k r l (sym e) R)) held,
           record {
             form = λ d. next-form d (leaf (leafWord b at k) ∷ s) (at + 1 + bodyOf k) (to-leaf Bound used at b k e s (R .kind) (R .inside) l (R .fits));
             numbers = λ d. next-numbers d (R .there);
@@ -136,23 +136,23 @@ module _ (b row stored stack : List ℕ) (n done at : ℕ) (S : Running b row st
         right : Tree ℕ
         rest : List (Tree ℕ)
         is : s ≡ right ∷ (left ∷ rest)
-        left-value : Valued stored row (done + 1) left (getD stack (n - 1 - 1) 0)
-        right-value : Valued stored row (done + 1) right (getD stack (n - 1) 0)
+        left-value : Valued stored row (done + 1) left (getD stack (n - 1) 0)
+        right-value : Valued stored row (done + 1) right top
         below : Stacked stored row stack (done + 1) (n - 1 - 1) rest
 
       pair : Pair
-      unfolding Stacked
+      unfolding Stacked Topped
       pair = by s refl held
         where
-          by : (u : List (Tree ℕ)) → s ≡ u → Stacked stored row stack (done + 1) n u → Pair
+          by : (u : List (Tree ℕ)) → s ≡ u → Topped stored row stack top (done + 1) n u → Pair
           by [] q d = absurd (let z : ⊥ = omega arith in z)
           by (t ∷ []) q d = absurd (let e = d .2 in let z : ⊥ = omega arith in z)
           by (t ∷ (u ∷ s)) q d = record { left = u; right = t; rest = s; is = q; left-value = d .2 .1; right-value = d .1; below = d .2 .2 }
 
-      pub left-fine : WellFormed used (getD stack (n - 1 - 1) 0)
+      pub left-fine : WellFormed used (getD stack (n - 1) 0)
       left-fine = pair .left-value .fine
 
-      pub right-fine : WellFormed used (getD stack (n - 1) 0)
+      pub right-fine : WellFormed used top
       right-fine = pair .right-value .fine
 
       abbrev joint : Tree ℕ
@@ -172,25 +172,21 @@ module _ (b row stored stack : List ℕ) (n done at : ℕ) (S : Running b row st
             let d : leb (max (height (pair .left)) (height (pair .right)) + 1) 16 ≡ true = le-leb (max (height (pair .left)) (height (pair .right)) + 1) 16 (omega (arith, pair .left-value .low, pair .right-value .low)) in
             to-two Bound used at b k e s (known-two k (K .above) (K .below) (K .known)) (omega (arith, body)) (K .above) ∙ ap (λ x. onTwo k s x) f ∙ ap (λ x. onTwo k x (at + 1)) (pair .is) ∙ rw d
 
-        module _ (r : ℕ) (given : r ≡ nothing → ⊥) (settled : (R : Rules) → Settled r (onBoth R k (valueOf stored (getD stack (n - 1 - 1) 0)) (valueOf stored (getD stack (n - 1) 0)))) where
-          pub run-two : Running b row stored (set stack (n - 1 - 1) r) (n - 1) (done + 1) (at + 1)
-          unfolding total size
+        module _ (r : ℕ) (given : r ≡ nothing → ⊥) (settled : (R : Rules) → Settled r (onBoth R k (valueOf stored (getD stack (n - 1) 0)) (valueOf stored top))) where
+          pub run-two : Running b row stored stack r (n - 1) (done + 1) (at + 1)
+          unfolding total size Topped
           run-two =
-              let f : n - 1 - 1 + 1 ≡ n - 1 = omega arith in
               let p = pair in
               let whole : total s ≡ size (p .right) + (size (p .left) + total (p .rest)) = ap total (p .is) in
               record {
-                long = simp length-set (S .long);
+                long = S .long;
                 few = omega (arith, S .few);
                 worked = omega (arith, S .worked);
                 inside = omega arith;
                 same = (
                   m + 1,
                   joint ∷ p .rest,
-                  subst (λ i. Stacked stored row (set stack (n - 1 - 1) r) (done + 1 + 1) i (joint ∷ p .rest)) f
-                      (push stored row (done + 1 + 1) stack (n - 1 - 1) r joint (p .rest) (omega (arith, S .few, S .long))
-                      (valued-two stored row (done + 1) k (p .left) (p .right) _ _ r (p .left-value) (p .right-value) given settled)
-                      (stacked-more stored row (done + 1) stack (n - 1 - 1) (p .rest) (p .below))),
+                  (omega arith, valued-two stored row (done + 1) k (p .left) (p .right) _ _ r (p .left-value) (p .right-value) given settled, stacked-more stored row (done + 1) stack (n - 1 - 1) (p .rest) (p .below)),
                   record {
                     form = λ d. next-form (omega arith) (joint ∷ p .rest) (at + 1) (goes d);
                     numbers = λ d. next-numbers (omega arith) there ∙ ap (λ x. numbersStop (length row) b (64 - (m + 1)) x) (let g : at + 1 + bodyOf k ≡ at + 1 = omega (arith, body) in g);
@@ -202,16 +198,15 @@ module _ (b row stored stack : List ℕ) (n done at : ℕ) (S : Running b row st
               }
 
   -- ---- the end of the bytes
-  pub run-end : length b ≤ at → (w r : ℕ) → w ≡ getD stack 0 0 → IsWhole n done w r → Ran b row stored r
-  unfolding Stacked total
-  run-end h w r q W = by s held (so-far .nodes) (so-far .form (W .few) ∙ parse-end Bound used b (64 - m) at s h)
+  pub run-end : length b ≤ at → (r : ℕ) → IsWhole n done top r → Ran b row stored r
+  unfolding Stacked Topped total
+  run-end h r W = by s held (so-far .nodes) (so-far .form (W .few) ∙ parse-end Bound used b (64 - m) at s h)
     where
-      by : (u : List (Tree ℕ)) → Stacked stored row stack (done + 1) n u → total u ≡ m → parsed Bound used b ≡ finish u at → Ran b row stored r
+      by : (u : List (Tree ℕ)) → Topped stored row stack top (done + 1) n u → total u ≡ m → parsed Bound used b ≡ finish u at → Ran b row stored r
       by [] d c p = absurd (let o = W .one in let z : ⊥ = omega arith in z)
       by (t ∷ []) d c p =
           let o = W .one in
-          let f : n - 1 ≡ 0 = omega arith in
-          let v : Valued stored row (done + 1) t r = subst (Valued stored row (done + 1) t) (ap (λ i. getD stack i 0) f ∙ sym (W .same ∙ q)) (d .1) in
+          let v : Valued stored row (done + 1) t r = subst (Valued stored row (done + 1) t) (sym (W .same)) (d .1) in
           record {
             tree = t;
             form = p;

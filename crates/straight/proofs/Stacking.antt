@@ -28,10 +28,15 @@ pub record Valued (stored row : List ℕ) (deep : ℕ) (t : Tree ℕ) (w : ℕ) 
   pub means : (R : Rules) → eval R (rowOf stored row) (mapTree (leafOf stored) t) ≡ value (valueOf stored w)
   pub fine : WellFormed (length stored) w
 
--- the first n words are the cells of a stack of trees, the top one last
+-- n words, from the second on, are the cells of a stack of trees, the top one last
 unfoldable pub Stacked : (stored row stack : List ℕ) (deep n : ℕ) → List (Tree ℕ) → Type 0
 Stacked stored row stack deep n [] = n ≡ 0
-Stacked stored row stack deep n (t ∷ s) = (0 < n) × Valued stored row deep t (getD stack (n - 1) 0) × Stacked stored row stack deep (n - 1) s
+Stacked stored row stack deep n (t ∷ s) = (0 < n) × Valued stored row deep t (getD stack n 0) × Stacked stored row stack deep (n - 1) s
+
+-- the same with the top one beside it
+unfoldable pub Topped : (stored row stack : List ℕ) (top deep n : ℕ) → List (Tree ℕ) → Type 0
+Topped stored row stack top deep n [] = n ≡ 0
+Topped stored row stack top deep n (t ∷ s) = (0 < n) × Valued stored row deep t top × Stacked stored row stack deep (n - 1) s
 
 -- ---- what an operator gives, a word that adds no text
 
@@ -88,21 +93,27 @@ module _ (stored row : List ℕ) (deep : ℕ) where
   pub stacked-more : (stack : List ℕ) (n : ℕ) (s : List (Tree ℕ)) → Stacked stored row stack deep n s → Stacked stored row stack (deep + 1) n s
   unfolding Stacked
   stacked-more stack n [] d = d
-  stacked-more stack n (t ∷ s) d = (d .0, valued-more t (getD stack (n - 1) 0) (d .1), stacked-more stack (n - 1) s (d .2))
+  stacked-more stack n (t ∷ s) d = (d .0, valued-more t (getD stack n 0) (d .1), stacked-more stack (n - 1) s (d .2))
 
-  -- a store at or above the top changes nothing
-  stacked-set : (stack : List ℕ) (i w n : ℕ) (s : List (Tree ℕ)) → n ≤ i → Stacked stored row stack deep n s → Stacked stored row (set stack i w) deep n s
+  -- a store above changes nothing
+  stacked-set : (stack : List ℕ) (i w n : ℕ) (s : List (Tree ℕ)) → n < i → Stacked stored row stack deep n s → Stacked stored row (set stack i w) deep n s
   unfolding Stacked
   stacked-set stack i w n [] h d = d
   stacked-set stack i w n (t ∷ s) h d = (
     d .0,
-    subst (Valued stored row deep t) (sym (getD-set-other stack i (n - 1) w 0 (omega (arith, d .0)))) (d .1),
+    subst (Valued stored row deep t) (sym (getD-set-other stack i n w 0 (omega arith))) (d .1),
     stacked-set stack i w (n - 1) s (omega arith) (d .2),
   )
 
-  pub push : (stack : List ℕ) (n w : ℕ) (t : Tree ℕ) (s : List (Tree ℕ)) → n < length stack → Valued stored row deep t w → Stacked stored row stack deep n s
-      → Stacked stored row (set stack n w) deep (n + 1) (t ∷ s)
-  unfolding Stacked
-  push stack n w t s h v d =
-      let e : n + 1 - 1 ≡ n = omega arith in
-      (omega arith, rw (e, getD-set-same stack n w 0 h) v, rw e (stacked-set stack n w n s (omega arith) d))
+  -- the top one goes below a new one
+  below-new : (stack : List ℕ) (top n : ℕ) (s : List (Tree ℕ)) → n < length stack → Topped stored row stack top deep n s → Stacked stored row (set stack n top) deep n s
+  unfolding Stacked Topped
+  below-new stack top n [] h d = d
+  below-new stack top n (t ∷ s) h d = (d .0, subst (Valued stored row deep t) (sym (getD-set-same stack n top 0 h)) (d .1), stacked-set stack n top (n - 1) s (omega (arith, d .0)) (d .2))
+
+  pub push : (stack : List ℕ) (top n w : ℕ) (t : Tree ℕ) (s : List (Tree ℕ)) → n < length stack → Valued stored row deep t w → Topped stored row stack top deep n s
+      → Topped stored row (set stack n top) w deep (n + 1) (t ∷ s)
+  unfolding Topped
+  push stack top n w t s h v d =
+      let e : n ≡ n + 1 - 1 = omega arith in
+      (omega arith, v, subst (λ i. Stacked stored row (set stack n top) deep i s) e (below-new stack top n s h d))

@@ -102,12 +102,13 @@ fn whole(n: usize, done: usize, word: u64) -> u64
     word
 }
 
-// The pass over the bytes, with the values of the trees so far on a stack.
+// The pass over the bytes, with the values of the trees so far on a stack, the last one in `top`.
 fn run(b: &[u8], row: &[u64], stored: &[u8]) -> u64
     requires { ⌜ RowSound (length (now stored)) (now row) ⌝ }
     ensures { λ r. ⌜ ((r ≡ nothing → ⊥) → Ran (now (b .entry)) (now (row .entry)) (now (stored .entry)) r) ⌝ }
 {
     let mut stack = [0u64; 16];
+    let mut top: u64 = 0;
     let mut n: usize = 0;
     let mut done: usize = 0;
     let mut at: usize = 0;
@@ -121,7 +122,8 @@ fn run(b: &[u8], row: &[u64], stored: &[u8]) -> u64
             if cell == 0xffff_ffff_ffff_ffff {
                 return 0xffff_ffff_ffff_ffff;
             }
-            stack[n] = cell;
+            stack[n] = top;
+            top = cell;
             n += 1;
             at = at + 1 + nodes::body_of(k);
             continue;
@@ -130,15 +132,14 @@ fn run(b: &[u8], row: &[u64], stored: &[u8]) -> u64
             return 0xffff_ffff_ffff_ffff;
         }
         n -= 1;
-        let word = wordwise::two(k, stack[n - 1], stack[n], stored);
-        if word == 0xffff_ffff_ffff_ffff {
-            return 0xffff_ffff_ffff_ffff;
+        top = wordwise::two(k, stack[n], top, stored);
+        if top == 0xffff_ffff_ffff_ffff {
+            return top;
         }
-        stack[n - 1] = word;
         done += 1;
         at += 1;
     }
-    whole(n, done, stack[0])
+    whole(n, done, top)
 }
 
 // `evaluate`, where it is simple.

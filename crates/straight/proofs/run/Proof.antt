@@ -12,10 +12,10 @@ use Rattle.straight.proofs.run.Statement.{statement}
 use Rattle.straight.proofs.run.Tie as tie
 
 abbrev Inv-loop : tie.InvT-loop
-Inv-loop b row stored stack₀ n₀ done₀ at₀ stack n done at = Running b row stored stack n done at
+Inv-loop b row stored stack₀ top₀ n₀ done₀ at₀ stack top n done at = Running b row stored stack top n done at
 
 abbrev μ-loop : tie.MeasureT-loop
-μ-loop b row stored stack₀ n₀ done₀ at₀ stack n done at = length b - at
+μ-loop b row stored stack₀ top₀ n₀ done₀ at₀ stack top n done at = length b - at
 
 -- the leaf that was read
 read : (c : tie.After-body-of Inv-loop μ-loop)
@@ -27,7 +27,7 @@ pair : (c : tie.Else4 Inv-loop μ-loop) → (2 ≤ c .before .before .before .be
 pair c = (c .if4 .left, c .before .before .before .before .before .loop .inv .few)
 
 loop-holds : tie.Need-loop-holds Inv-loop μ-loop
-loop-holds c = run-start _ _ _ _ refl
+loop-holds c = run-start _ _ _ _ _ refl
 
 shared-slice-read-wide : tie.Need-shared-slice-read-wide Inv-loop μ-loop
 shared-slice-read-wide c = search needs
@@ -67,8 +67,8 @@ loop-less c = omega (arith, c .before .before .before .before .before .before .b
 
 loop-again : tie.Need-loop-again Inv-loop μ-loop
 loop-again c =
-    subst (λ x. Running (now (c .before .before .before .before .before .before .before .before .before .before .before .before .args .b)) (now (c .before .before .before .before .before .before .before .before .before .before .before .before .args .row)) (now (c .before .before .before .before .before .before .before .before .before .before .before .before .args .stored)) (set (c .before .before .before .before .before .before .before .before .loop .stack) (c .before .before .before .before .before .before .before .before .loop .n) (c .before .before .leaf .result)) (c .before .before .before .before .before .before .before .before .loop .n + 1) (c .before .before .before .before .before .before .before .before .loop .done) (c .before .before .before .before .before .before .before .before .loop .at + 1 + x)) (sym (c .body-of .ensures))
-    (run-leaf _ _ _ _ _ _ _ (c .before .before .before .before .before .before .before .before .loop .inv) (c .before .before .before .before .before .before .before .loop-test .taken) (c .before .before .before .before .before .wide .result) (c .before .before .before .before .before .wide .ensures .0) (λ i. c .before .before .before .before .before .before .before .before .before .before .before .shared-slice-known .given i .fits) (c .before .before .before .before .before .before .before .before .before .before .before .before .pre) (c .before .before .before .before .if1 .taken) (c .before .before .before .if2 .left) _ (read c))
+    subst (λ x. Running (now (c .before .before .before .before .before .before .before .before .before .before .before .before .args .b)) (now (c .before .before .before .before .before .before .before .before .before .before .before .before .args .row)) (now (c .before .before .before .before .before .before .before .before .before .before .before .before .args .stored)) (set (c .before .before .before .before .before .before .before .before .loop .stack) (c .before .before .before .before .before .before .before .before .loop .n) (c .before .before .before .before .before .before .before .before .loop .top)) (c .before .before .leaf .result) (c .before .before .before .before .before .before .before .before .loop .n + 1) (c .before .before .before .before .before .before .before .before .loop .done) (c .before .before .before .before .before .before .before .before .loop .at + 1 + x)) (sym (c .body-of .ensures))
+    (run-leaf _ _ _ _ _ _ _ _ (c .before .before .before .before .before .before .before .before .loop .inv) (c .before .before .before .before .before .before .before .loop-test .taken) (c .before .before .before .before .before .wide .result) (c .before .before .before .before .before .wide .ensures .0) (λ i. c .before .before .before .before .before .before .before .before .before .before .before .shared-slice-known .given i .fits) (c .before .before .before .before .before .before .before .before .before .before .before .before .pre) (c .before .before .before .before .if1 .taken) (c .before .before .before .if2 .left) _ (read c))
 
 returns-3 : tie.Need-returns-3 Inv-loop μ-loop
 returns-3 c = λ n. absurd (n refl)
@@ -76,35 +76,17 @@ returns-3 c = λ n. absurd (n refl)
 sub-n : tie.Need-sub-n Inv-loop μ-loop
 sub-n c = omega (arith, pair c .0, pair c .1)
 
-sub-two : tie.Need-sub-two Inv-loop μ-loop
-sub-two c = omega (arith, pair c .0, pair c .1)
-
 mul-two : tie.Need-mul-two Inv-loop μ-loop
 mul-two c = omega (arith, pair c .0, pair c .1)
 
 array-read-two : tie.Need-array-read-two Inv-loop μ-loop
 array-read-two c = omega (arith, pair c .0, pair c .1)
 
-mul-two-2 : tie.Need-mul-two-2 Inv-loop μ-loop
-mul-two-2 c = omega (arith, pair c .0, pair c .1)
-
-array-read-two-2 : tie.Need-array-read-two-2 Inv-loop μ-loop
-array-read-two-2 c = omega (arith, pair c .0, pair c .1)
-
 two-requires : tie.Need-two-requires Inv-loop μ-loop
-two-requires c κs = (left-fine _ _ _ _ _ _ _ (c .before .before .before .before .before .loop .inv) (c .before .before .before .before .loop-test .taken) _ (c .before .before .wide .ensures .0) (c .if4 .left), right-fine _ _ _ _ _ _ _ (c .before .before .before .before .before .loop .inv) (c .before .before .before .before .loop-test .taken) _ (c .before .before .wide .ensures .0) (c .if4 .left))
+two-requires c κs = (left-fine _ _ _ _ _ _ _ _ (c .before .before .before .before .before .loop .inv) (c .before .before .before .before .loop-test .taken) _ (c .before .before .wide .ensures .0) (c .if4 .left), right-fine _ _ _ _ _ _ _ _ (c .before .before .before .before .before .loop .inv) (c .before .before .before .before .loop-test .taken) _ (c .before .before .wide .ensures .0) (c .if4 .left))
 
 returns-4 : tie.Need-returns-4 Inv-loop μ-loop
-returns-4 c = λ n. absurd (n refl)
-
-sub-stack : tie.Need-sub-stack Inv-loop μ-loop
-sub-stack c = omega (arith, pair (c .before .before) .0, pair (c .before .before) .1)
-
-mul-stack-2 : tie.Need-mul-stack-2 Inv-loop μ-loop
-mul-stack-2 c = omega (arith, pair (c .before .before) .0, pair (c .before .before) .1)
-
-array-write-stack-2 : tie.Need-array-write-stack-2 Inv-loop μ-loop
-array-write-stack-2 c = omega (arith, pair (c .before .before) .0, pair (c .before .before) .1)
+returns-4 c = λ n. absurd (n (c .if5 .taken))
 
 add-done : tie.Need-add-done Inv-loop μ-loop
 add-done c = omega (arith, c .before .before .before .before .before .before .before .loop .inv .worked, c .before .before .before .before .before .before .loop-test .taken)
@@ -117,16 +99,13 @@ loop-less-2 c = search needs
 
 loop-again-2 : tie.Need-loop-again-2 Inv-loop μ-loop
 loop-again-2 c =
-    run-two _ _ _ _ _ _ _ (c .before .before .before .before .before .before .before .loop .inv) (c .before .before .before .before .before .before .loop-test .taken) (c .before .before .before .before .wide .result) (c .before .before .before .before .wide .ensures .0) (c .before .before .if4 .left) (c .before .two .ensures .0 (c .if5 .left)) (c .before .two .result) (c .if5 .left) (c .before .two .ensures .1)
-
-array-read-whole : tie.Need-array-read-whole Inv-loop μ-loop
-array-read-whole c = omega arith
+    run-two _ _ _ _ _ _ _ _ (c .before .before .before .before .before .before .before .loop .inv) (c .before .before .before .before .before .before .loop-test .taken) (c .before .before .before .before .wide .result) (c .before .before .before .before .wide .ensures .0) (c .before .before .if4 .left) (c .before .two .ensures .0 (c .if5 .left)) (c .before .two .result) (c .if5 .left) (c .before .two .ensures .1)
 
 whole-requires : tie.Need-whole-requires Inv-loop μ-loop
 whole-requires c κs = search needs
 
 returns-5 : tie.Need-returns-5 Inv-loop μ-loop
-returns-5 c = λ n. run-end _ _ _ _ _ _ _ (c .before .before .loop .inv) (c .before .loop-test .left) _ _ refl (c .whole .ensures n)
+returns-5 c = λ n. run-end _ _ _ _ _ _ _ _ (c .before .before .loop .inv) (c .before .loop-test .left) _ (c .whole .ensures n)
 
 pub run-spec : {M : Type 1} → statement M
 run-spec =
@@ -150,20 +129,13 @@ run-spec =
     loop-again
     returns-3
     sub-n
-    sub-two
     mul-two
     array-read-two
-    mul-two-2
-    array-read-two-2
     two-requires
     returns-4
-    sub-stack
-    mul-stack-2
-    array-write-stack-2
     add-done
     add-at-3
     loop-less-2
     loop-again-2
-    array-read-whole
     whole-requires
     returns-5)
