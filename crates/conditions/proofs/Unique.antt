@@ -1,4 +1,4 @@
--- Two results that satisfy a contract of this crate are equal, but for what docs/EXCEPTIONS.md leaves open; that of node_of is an equation already.
+-- Two results that satisfy a contract of this crate are equal, but for what docs/EXCEPTIONS.md leaves open; those of node_of and leaf are equations already.
 -- Assumes nothing.
 use mathlib.Core.Path.{_≡_, refl, sym, ap, _∙_}
 use mathlib.Core.List.{List, []}
@@ -17,6 +17,7 @@ use Rattle.integers.specs.Outcome.{Outcome, value}
 use Rattle.integers.specs.declared.Answer.{Answer}
 use Rattle.integers.specs.declared.Answer.the-variants.{Gave, Overflow, ShiftAmount, TooLong}
 use Rattle.operators.specs.declared.Rules.{Rules}
+use Rattle.conditions.specs.Ast.{decides}
 use Rattle.conditions.specs.Table.{nodeOf, Answers, Lies, LiesAt}
 use Rattle.conditions.specs.declared.Node.{Node}
 use Rattle.conditions.specs.declared.Node.the-variants.{Leaf, One, Two}
@@ -26,6 +27,12 @@ pub one-truth : (word : ℕ) (r s : Bool) (stored : List ℕ) → WellFormed (le
     → ((stored : List ℕ) → WellFormed (length stored) word → r ≡ toBool (valueOf stored word))
     → ((stored : List ℕ) → WellFormed (length stored) word → s ≡ toBool (valueOf stored word)) → r ≡ s
 one-truth word r s stored h f g = f stored h ∙ sym (g stored h)
+
+-- decided, of a cell that is well formed in some text
+pub one-decision : (op left : ℕ) (r s : Bool) (stored : List ℕ) → WellFormed (length stored) left
+    → ((stored : List ℕ) → WellFormed (length stored) left → r ≡ decides op (valueOf stored left))
+    → ((stored : List ℕ) → WellFormed (length stored) left → s ≡ decides op (valueOf stored left)) → r ≡ s
+one-decision op left r s stored h f g = f stored h ∙ sym (g stored h)
 
 -- ---- evaluate
 

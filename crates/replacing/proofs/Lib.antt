@@ -2,3 +2,4 @@
 pub mod Results
 pub mod Literals
 pub mod Standing
+pub mod Unique

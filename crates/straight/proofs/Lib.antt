@@ -2,3 +2,4 @@
 pub mod Reading
 pub mod Stacking
 pub mod Running
+pub mod Unique
