@@ -1,2 +1,4 @@
 -- What the proofs of several functions use, here and above.
 pub mod Settling
+pub mod Textless
+pub mod Worth
