@@ -1,12 +1,12 @@
 -- The laws of the walk: what a sound tree asks of its operands, and how their words make its word. Assumes nothing.
 use mathlib.Core.Path.{_≡_, refl, sym, ap, subst, _∙_}
-use mathlib.Core.Bool.{Bool, true, false}
+use mathlib.Core.Bool.{Bool, true}
 use mathlib.Core.List.{List}
 use Prim.Native.Nat.{ℕ, _+_, _-_, _*_, _^_, _/_, _%_, _≤_, _<_}
 use native.Mathlib.Omega.{arith}
 use lib.ListN.{length, take, getD}
 use lib.Seq.{length-take-le}
-use borrow.Author.Tests.{lt-ltb, le-ltb, ne-eqb}
+use borrow.Author.Tests.{lt-ltb, le-ltb}
 use Rattle.cells.specs.Cell.{WellFormed, kindOf, startOf}
 use Rattle.cells.proofs.Stops.{inside-more}
 use Rattle.values.specs.Value.{Value, valueOf, toBool, fromBool}
@@ -14,16 +14,16 @@ use Rattle.integers.specs.Outcome.{Outcome, value, gave, placed}
 use Rattle.integers.specs.declared.Answer.the-variants.{Gave}
 use Rattle.operators.specs.Operator.{unaryOf}
 use Rattle.operators.specs.declared.Rules.{Rules}
-use Rattle.operators.proofs.Holding.{holds-unary, holds-truth, value-int32}
-use Rattle.conditions.specs.Ast.{leaf, unary, binary, eval, decides, twoSided}
+use Rattle.operators.proofs.Holding.{holds-unary, holds-truth}
+use Rattle.conditions.specs.Ast.{leaf, unary, binary, eval, decides}
 use Rattle.conditions.specs.Table.{nodeOf, leafOf, treeOf, LeafSound, SoundAt, Sound, rowOf, RowSound, LiesAt, LeafIs, Asks, Answers, Lies}
 use Rattle.conditions.specs.declared.Node.{Node}
 use Rattle.conditions.specs.declared.Node.the-variants.{Leaf, One, Two}
 use Rattle.conditions.proofs.Giving.{value-more}
-use Rattle.conditions.proofs.Deciding.{holds-two-sided}
 use Rattle.conditions.proofs.Walk.{sound-step, tree-step}
-use Rattle.quick.specs.Quick.{none, Stands, Tells, Found}
-use Rattle.quick.proofs.Telling.{Worth, worth}
+use Rattle.wordwise.specs.Settled.{nothing, Settled, onBoth}
+use Rattle.wordwise.proofs.Worth.{Worth, worth, holds-both}
+use Rattle.quick.specs.Quick.{Stands, Found}
 
 -- ---- a node by its kind
 
@@ -39,11 +39,6 @@ module _ (w : ℕ) where
   pub node-two : 32 ≤ w / 2 ^ 56 → nodeOf w ≡ Two (w / 2 ^ 56) (w % 2 ^ 56)
   unfolding nodeOf
   node-two h = rw (le-ltb (w / 2 ^ 56) 16 (omega arith), le-ltb (w / 2 ^ 56) 32 h)
-
--- only AND and OR can be decided by their left operand
-pub undecided : (op : ℕ) (v : Value) → op < 47 → decides op v ≡ false
-unfolding decides
-undecided op v h = rw (ne-eqb op 48 (λ e. omega arith), ne-eqb op 49 (λ e. omega arith))
 
 -- ---- the tree at k
 
@@ -82,12 +77,12 @@ module _ (d k : ℕ) (nodes row stored : List ℕ) (S : Stands d k nodes row sto
     pub one-stands : Stands (d - 1) (k - 1) nodes row stored
     one-stands = record { sound = at-one .2; rows = S .rows }
 
-    pub one-found : (v r : ℕ) → Found (d - 1) (k - 1) nodes row stored v
-        → ((R : Rules) (x : List ℕ) → WellFormed (length x) v → Tells r (unaryOf R op (valueOf x v))) → Found d k nodes row stored r
+    pub one-found : (v r : ℕ) → Found (d - 1) (k - 1) nodes row stored v → (r ≡ nothing → ⊥)
+        → ((R : Rules) (x : List ℕ) → WellFormed (length x) v → Settled r (unaryOf R op (valueOf x v))) → Found d k nodes row stored r
     unfolding eval
-    one-found v r g f =
+    one-found v r g n f =
         let q : treeOf stored d nodes k ≡ unary op (treeOf stored (d - 1) nodes (k - 1)) = tree-step stored d nodes k deep ∙ rw e in
-        let z : (R : Rules) → Worth stored r (unaryOf R op (valueOf stored v)) = λ R. worth stored 0 r _ (holds-unary 0 R op _) (f R stored (g .within)) in
+        let z : (R : Rules) → Worth stored r (unaryOf R op (valueOf stored v)) = λ R. worth stored 0 r _ (holds-unary 0 R op _) n (f R stored (g .within)) in
         let y = z (record { limit = 0 }) in
         record {
           means = λ R. rw (q, g .means R) (z R .means);
@@ -120,26 +115,25 @@ module _ (d k : ℕ) (nodes row stored : List ℕ) (S : Stands d k nodes row sto
     module _ (v : ℕ) (g : Found (d - 1) l nodes row stored v) where
       -- the left operand decides
       pub left-found : (r : ℕ) (y : Bool) → decides op (valueOf stored v) ≡ true → y ≡ toBool (valueOf stored v)
-          → ((top : ℕ) → gave r top ≡ placed top (value (fromBool y))) → Found d k nodes row stored r
+          → (r ≡ nothing → ⊥) → ((top : ℕ) → gave r top ≡ placed top (value (fromBool y))) → Found d k nodes row stored r
       unfolding eval
-      left-found r y t j f =
-          let z = worth stored 0 r (value (fromBool y)) (holds-truth 0 y) (record { told = f }) in
+      left-found r y t j n f =
+          let z = worth stored 0 r (value (fromBool y)) (holds-truth 0 y) n (record { told = λ m. f }) in
           record {
             means = λ R. rw (two-tree, g .means R, t, ← j) (z .means);
             within = z .within;
             lies = λ top. rw e (λ i. absurd (z .plain i));
           }
 
-      -- it doesn't, and the right one has a word too
-      pub two-found : decides op (valueOf stored v) ≡ false → (w r : ℕ) → Found (d - 1) (k - 1) nodes row stored w
-          → ((R : Rules) → Tells r (twoSided R op (valueOf stored v) (valueOf stored w))) → Found d k nodes row stored r
-      unfolding eval
-      two-found t w r i f =
-          let z : (R : Rules) → Worth stored r (twoSided R op (valueOf stored v) (valueOf stored w)) =
-          λ R. worth stored (R .limit) r _ (holds-two-sided R op _ _ (value-int32 stored v) (value-int32 stored w)) (f R) in
+      -- the right one has a word too
+      pub two-found : (w r : ℕ) → Found (d - 1) (k - 1) nodes row stored w → (r ≡ nothing → ⊥)
+          → ((R : Rules) → Settled r (onBoth R op (valueOf stored v) (valueOf stored w))) → Found d k nodes row stored r
+      unfolding eval onBoth
+      two-found w r i n f =
+          let z : (R : Rules) → Worth stored r (onBoth R op (valueOf stored v) (valueOf stored w)) = λ R. worth stored (R .limit) r _ (holds-both R op stored v w) n (f R) in
           let y = z (record { limit = 0 }) in
           record {
-            means = λ R. rw (two-tree, g .means R, t, i .means R) (z R .means);
+            means = λ R. rw (two-tree, g .means R, i .means R) (z R .means);
             within = y .within;
             lies = λ top. rw e (λ j. absurd (y .plain j));
           }

@@ -5,23 +5,15 @@ use mathlib.Core.List.{List}
 use lib.ListN.{length, getD}
 use Rattle.cells.specs.Cell.{WellFormed}
 use Rattle.values.specs.Value.{valueOf}
-use Rattle.integers.specs.Outcome.{Outcome, value, gave, placed}
+use Rattle.integers.specs.Outcome.{value}
 use Rattle.operators.specs.declared.Rules.{Rules}
 use Rattle.conditions.specs.Ast.{eval}
 use Rattle.conditions.specs.Table.{nodeOf, rowOf, treeOf, LiesAt, RowSound, Sound}
-
--- no cell's word (the kind of one is 0 to 3): nothing is told
-abbrev pub none : ℕ
-none = 18446744073709551615
 
 -- what is asked: a sound tree and a sound row, their texts inside the stored one
 pub record Stands (depth k : ℕ) (nodes row stored : List ℕ) : Type 0 where
   pub sound : Sound (length stored) (length row) depth nodes k
   pub rows : RowSound (length stored) row
-
--- the word of an operator's outcome, which is no text: wherever the top is, it stands for it
-pub record Tells (r : ℕ) (o : Outcome) : Type 0 where
-  pub told : (top : ℕ) → gave r top ≡ placed top o
 
 -- the word of what the tree at k comes to under any rules, and where its cell lies
 pub record Found (depth k : ℕ) (nodes row stored : List ℕ) (r : ℕ) : Type 0 where

@@ -1,26 +1,18 @@
 -- A stack of trees with their cells, and the laws of pushing a leaf and of joining two trees by an operator. Assumes nothing.
-use mathlib.Core.Path.{_≡_, refl, sym, ap, subst, _∙_}
-use mathlib.Core.Bool.{Bool, true, false, cond}
+use mathlib.Core.Path.{_≡_, sym, subst}
 use mathlib.Core.List.{List, [], _∷_}
-use Prim.Native.Nat.{ℕ, zero, suc, _+_, _-_, _*_, _^_, _≤_, _<_, max}
+use Prim.Native.Nat.{ℕ, _+_, _-_, _≤_, _<_}
 use native.Mathlib.Omega.{arith}
-use native.Mathlib.Nat.{add-sub-cancel}
 use lib.ListN.{length, getD, set}
-use lib.IntN.{ℤ}
 use lib.Seq.{getD-set-same, getD-set-other}
-use Rattle.cells.specs.Cell.{WellFormed, Inside, refOf, wordOf}
-use Rattle.cells.specs.declared.ValueRef.{ValueRef}
-use Rattle.cells.specs.declared.ValueRef.the-variants.{Null, Int, Str, Binary}
-use Rattle.cells.proofs.Words.{Sized, ref-back}
-use Rattle.cells.proofs.Stops.{well-word}
-use Rattle.values.specs.Value.{Value, null, int, str, binary, toValue, valueOf, toBool, fromBool}
-use Rattle.integers.specs.Outcome.{Outcome, value, Reply, gave, placed}
+use Rattle.cells.specs.Cell.{WellFormed}
+use Rattle.values.specs.Value.{valueOf}
+use Rattle.integers.specs.Outcome.{value}
 use Rattle.operators.specs.declared.Rules.{Rules}
-use Rattle.operators.proofs.Holding.{Holds, holds-truth, value-int32}
-use Rattle.conditions.specs.Ast.{Tree, leaf, unary, binary, mapTree, eval, decides, twoSided, height, size}
+use Rattle.conditions.specs.Ast.{Tree, leaf, binary, mapTree, eval, height}
 use Rattle.conditions.specs.Table.{leafOf, rowOf, LeafIs}
-use Rattle.conditions.proofs.Deciding.{holds-two-sided}
 use Rattle.wordwise.specs.Settled.{nothing, Settled, onBoth}
+use Rattle.wordwise.proofs.Worth.{Worth, worth, holds-both}
 
 -- a tree at most so deep, and the cell that it comes to
 pub record Valued (stored row : List ℕ) (deep : ℕ) (t : Tree ℕ) (w : ℕ) : Type 0 where
@@ -38,36 +30,6 @@ unfoldable pub Topped : (stored row stack : List ℕ) (top deep n : ℕ) → Lis
 Topped stored row stack top deep n [] = n ≡ 0
 Topped stored row stack top deep n (t ∷ s) = (0 < n) × Valued stored row deep t top × Stacked stored row stack deep (n - 1) s
 
--- ---- what an operator gives, a word that adds no text
-
-reply-word : Reply → ℕ
-reply-word (gave w top) = w
-reply-word (Reply.refused n) = 0
-
-module _ (stored : List ℕ) (r : ℕ) where
-  -- a cell that is no text
-  cell-is : (x : ValueRef) (v : Value) → Sized x → Inside (length stored) x → toValue stored x ≡ v → r ≡ wordOf x → (value v ≡ value (valueOf stored r)) × WellFormed (length stored) r
-  cell-is x v s i m e = (ap value (sym (ap (λ w. valueOf stored w) e ∙ ap (toValue stored) (ref-back x s) ∙ m)), rw e (well-word (length stored) x s i))
-
-  pub settled-is : (limit : ℕ) (o : Outcome) → Holds limit o → ((top : ℕ) → gave r top ≡ placed top o) → (o ≡ value (valueOf stored r)) × WellFormed (length stored) r
-  unfolding placed reply-word toValue Sized Inside wordOf
-  settled-is limit (value null) h f = cell-is Null null tt tt refl (ap reply-word (f 0))
-  settled-is limit (value (int z)) h f = cell-is (Int z) (int z) (h .held) tt refl (ap reply-word (f 0))
-  settled-is limit (value (str b)) h f =
-      let p : r ≡ 2 * 2 ^ 56 + (0 * 65536 + length b) = ap reply-word (f 0) in
-      let q : r ≡ 2 * 2 ^ 56 + (1 * 65536 + length b) = ap reply-word (f 1) in
-      absurd (let z : ⊥ = omega arith in z)
-  settled-is limit (value binary) h f = cell-is Binary binary tt tt refl (ap reply-word (f 0))
-  settled-is limit (Outcome.refused n) h f = absurd (let e = f 0 in let z : _≡_ {A = ℕ} 0 1 = cc in omega arith)
-
-holds-both : (R : Rules) (op : ℕ) (t : List ℕ) (a b : ℕ) → Holds (R .limit) (onBoth R op (valueOf t a) (valueOf t b))
-unfolding onBoth
-holds-both R op t a b = go (decides op (valueOf t a))
-  where
-    go : (x : Bool) → Holds (R .limit) (cond x (value (fromBool (toBool (valueOf t a)))) (twoSided R op (valueOf t a) (valueOf t b)))
-    go true = holds-truth (R .limit) (toBool (valueOf t a))
-    go false = holds-two-sided R op (valueOf t a) (valueOf t b) (value-int32 t a) (value-int32 t b)
-
 -- ---- trees and their cells
 
 module _ (stored row : List ℕ) (deep : ℕ) where
@@ -79,12 +41,11 @@ module _ (stored row : List ℕ) (deep : ℕ) where
       → ((R : Rules) → Settled r (onBoth R op (valueOf stored a) (valueOf stored b))) → Valued stored row (deep + 1) (binary op t u) r
   unfolding height mapTree eval onBoth
   valued-two op t u a b r A B n s =
-      let is : (R : Rules) → (onBoth R op (valueOf stored a) (valueOf stored b) ≡ value (valueOf stored r)) × WellFormed (length stored) r =
-      λ R. settled-is stored r (R .limit) (onBoth R op (valueOf stored a) (valueOf stored b)) (holds-both R op stored a b) (s R .told n) in
+      let is : (R : Rules) → Worth stored r (onBoth R op (valueOf stored a) (valueOf stored b)) = λ R. worth stored (R .limit) r _ (holds-both R op stored a b) n (s R) in
       record {
         low = omega (arith, A .low, B .low);
-        means = λ R. rw (A .means R, B .means R) (is R .0);
-        fine = is (record { limit = 0 }) .1;
+        means = λ R. rw (A .means R, B .means R) (is R .means);
+        fine = is (record { limit = 0 }) .within;
       }
 
   valued-more : (t : Tree ℕ) (w : ℕ) → Valued stored row deep t w → Valued stored row (deep + 1) t w

@@ -1,5 +1,5 @@
 // `evaluate` in one pass: the bytes of a bound condition are checked and worked out at once, on a stack of words.
-// It gives the greatest word, which is no cell's, wherever anything is refused or isn't simple; then nothing is said.
+// It gives `NOTHING` wherever anything is refused or isn't simple; then nothing is said.
 ghost use mathlib.Core.Path.{_≡_};
 ghost use mathlib.Core.Bool.{true};
 ghost use Prim.Native.Nat.{_+_, _<_, _≤_};
@@ -10,6 +10,7 @@ ghost use Rattle.checks.specs.Check.{cellsStop};
 ghost use Rattle.conditions.specs.Table.{RowSound};
 ghost use Rattle.wordwise.specs.Settled.{nothing};
 ghost use Rattle.straight.specs.Straight.{LeafRead, IsWhole, Ran, Straight};
+use wordwise::NOTHING;
 
 // Whether a word is well formed below the mark: an Int is, by its upper half.
 fn is_fine(word: u64, used: usize) -> bool
@@ -44,11 +45,11 @@ fn column(b: &[u8], at: usize, row: &[u64], used: usize) -> u64
     ensures { λ r. ⌜ ((r ≡ nothing → ⊥) → LeafRead used (now (b .entry)) (now (row .entry)) at 4 r) ⌝ }
 {
     if b.len() - at < 2 {
-        return 0xffff_ffff_ffff_ffff;
+        return NOTHING;
     }
     let number = nodes::wide(b[at + 1]) as usize;
     if row.len() <= number {
-        return 0xffff_ffff_ffff_ffff;
+        return NOTHING;
     }
     row[number]
 }
@@ -63,23 +64,23 @@ fn leaf(b: &[u8], at: usize, k: u64, row: &[u64], used: usize) -> u64
     }
     if k == 1 {
         if b.len() - at < 5 {
-            return 0xffff_ffff_ffff_ffff;
+            return NOTHING;
         }
         return nodes::leaf_word(b, at, 1);
     }
     if k == 2 {
         if b.len() - at < 7 {
-            return 0xffff_ffff_ffff_ffff;
+            return NOTHING;
         }
         if nodes::text_fits(b, at, 2, used) {
             return nodes::leaf_word(b, at, 2);
         }
-        return 0xffff_ffff_ffff_ffff;
+        return NOTHING;
     }
     if k == 0 {
         return nodes::leaf_word(b, at, 0);
     }
-    0xffff_ffff_ffff_ffff
+    NOTHING
 }
 
 // The value of the whole, from how many values are left and the first: of one tree with an operator, and no text.
@@ -88,16 +89,16 @@ fn whole(n: usize, done: usize, word: u64) -> u64
     ensures { λ r. ⌜ ((r ≡ nothing → ⊥) → IsWhole n done word r) ⌝ }
 {
     if n != 1 {
-        return 0xffff_ffff_ffff_ffff;
+        return NOTHING;
     }
     if done == 0 {
-        return 0xffff_ffff_ffff_ffff;
+        return NOTHING;
     }
     if 15 < done {
-        return 0xffff_ffff_ffff_ffff;
+        return NOTHING;
     }
     if word / 0x100_0000_0000_0000 == 2 {
-        return 0xffff_ffff_ffff_ffff;
+        return NOTHING;
     }
     word
 }
@@ -116,11 +117,11 @@ fn run(b: &[u8], row: &[u64], stored: &[u8]) -> u64
         let k = nodes::wide(b[at]);
         if k < 16 {
             if n == 16 {
-                return 0xffff_ffff_ffff_ffff;
+                return NOTHING;
             }
             let cell = leaf(b, at, k, row, stored.len());
-            if cell == 0xffff_ffff_ffff_ffff {
-                return 0xffff_ffff_ffff_ffff;
+            if cell == NOTHING {
+                return NOTHING;
             }
             stack[n] = top;
             top = cell;
@@ -129,11 +130,11 @@ fn run(b: &[u8], row: &[u64], stored: &[u8]) -> u64
             continue;
         }
         if n < 2 {
-            return 0xffff_ffff_ffff_ffff;
+            return NOTHING;
         }
         n -= 1;
         top = wordwise::two(k, stack[n], top, stored);
-        if top == 0xffff_ffff_ffff_ffff {
+        if top == NOTHING {
             return top;
         }
         done += 1;
@@ -147,22 +148,22 @@ pub fn evaluate(condition: &[u8], row: &[u64], text: &[u8], used: usize) -> u64
     ensures { λ r. ⌜ ((r ≡ nothing → ⊥) → Straight (now (condition .entry)) (now (row .entry)) (now (text .entry)) used r) ⌝ }
 {
     if 65536 < text.len() {
-        return 0xffff_ffff_ffff_ffff;
+        return NOTHING;
     }
     if text.len() < used {
-        return 0xffff_ffff_ffff_ffff;
+        return NOTHING;
     }
     if text.len() - used < 32768 {
-        return 0xffff_ffff_ffff_ffff;
+        return NOTHING;
     }
     if row.len() < 1 {
-        return 0xffff_ffff_ffff_ffff;
+        return NOTHING;
     }
     if 32 < row.len() {
-        return 0xffff_ffff_ffff_ffff;
+        return NOTHING;
     }
     if are_cells(row, used) {
         return run(condition, row, &text[..used]);
     }
-    0xffff_ffff_ffff_ffff
+    NOTHING
 }

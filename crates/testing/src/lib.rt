@@ -56,7 +56,7 @@ pub fn try_row(nodes: &[u64], n: usize, row: &[u64], text: &[u8], used: usize) -
         TriedIs r (test (record { limit = 1024 }) b used (take used (now (text .entry))) (now (row .entry)))) ⌝ }
 {
     let word = quick::word_of(nodes, n - 1, 16, row, &text[..used]);
-    if word == quick::NONE {
+    if word == wordwise::NOTHING {
         return 2;
     }
     conditions::truth(word) as usize

@@ -98,6 +98,11 @@ module _ (R : Rules) (op : ℕ) (v w : Value) where
   unfolding twoSided
   no-truth h = no-decision (omega arith) ∙ rw (lt-ltb op 47 h)
 
+  -- AND and OR whose left operand has not decided
+  pub both-truth : (x : Bool) → decides op v ≡ false → 47 ≤ op → x ≡ toBool w → onBoth R op v w ≡ value (fromBool x)
+  unfolding onBoth twoSided
+  both-truth x d h e = rw (d, le-ltb op 47 h, e)
+
   pub both-compared : op < 38 → onBoth R op v w ≡ value (fromBool (holds op (order v w)))
   unfolding compared
   both-compared h = no-truth (omega arith) ∙ binary-compared R op v w h

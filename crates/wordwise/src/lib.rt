@@ -1,23 +1,30 @@
-// Two-sided operators on the words of two cells, where the result is one word and no text is written.
-// The greatest word, which is no cell's, says that an operator or its operands are left to `operators`.
+// Operators on the words of cells, where the result is one word and no text is written: `operators` hands its answers on through
+// memory, a word comes back in a register.
 ghost use mathlib.Core.Path.{_≡_};
-ghost use Prim.Native.Nat.{_<_, _≤_};
+ghost use mathlib.Core.List.{List};
+ghost use Prim.Native.Nat.{ℕ, _<_, _≤_};
 ghost use lib.ListN.{length};
 ghost use Rattle.cells.specs.Cell.{WellFormed};
 ghost use Rattle.values.specs.Value.{valueOf};
-ghost use Rattle.integers.specs.Integer.{intOf, fitted};
+ghost use Rattle.integers.specs.Integer.{intOf, fitted, onInts};
+ghost use Rattle.operators.specs.Operator.{unaryOf};
 ghost use Rattle.operators.specs.declared.Rules.{Rules};
 ghost use Rattle.wordwise.specs.Settled.{nothing, Settled, onBoth, GivesBoth, Ints, IsTwoSided};
+use integers::Answer;
+use operators::Rules;
+
+// No cell's word: an operator or its operands are left to `operators`.
+pub const NOTHING: u64 = 0xffff_ffff_ffff_ffff;
 
 // A number as an Int's word.
 fn narrow(z: i64) -> u64
     ensures { λ r. ⌜ Settled r (fitted z) ⌝ }
 {
     if z < -2147483648 {
-        return 0xffff_ffff_ffff_ffff;
+        return NOTHING;
     }
     if 2147483647 < z {
-        return 0xffff_ffff_ffff_ffff;
+        return NOTHING;
     }
     0x100_0000_0000_0000 + cells::bits(z as i32)
 }
@@ -46,7 +53,18 @@ fn decide(op: u64, a: u64, b: u64) -> u64
     operators::flag(conditions::truth(b))
 }
 
-// The operators on two Ints that go by their words alone: `= != & | ^`, AND and OR; `/` and shifts are left.
+// `/` and shifts of two Ints (and any other that gives a number), which are rare.
+fn rare(op: u64, a: u64, b: u64) -> u64
+    requires { ⌜ (38 ≤ op) × (op < 47) ⌝ }
+    ensures { λ r. ⌜ Settled r (onInts op (intOf a) (intOf b)) ⌝ }
+{
+    match integers::on_ints(op, a, b, 0) {
+        Answer::Gave(word, _) => word,
+        _ => NOTHING,
+    }
+}
+
+// The operators on two Ints that go by their words alone: `= != & | ^`, AND and OR.
 fn on_words(op: u64, a: u64, b: u64) -> u64
     requires { ⌜ Ints a b ⌝ }
     ensures known { λ r. ⌜ ((r ≡ nothing → ⊥) → IsTwoSided op) ⌝ }
@@ -73,7 +91,13 @@ fn on_words(op: u64, a: u64, b: u64) -> u64
     if op == 49 {
         return decide(49, a, b);
     }
-    0xffff_ffff_ffff_ffff
+    if op < 38 {
+        return NOTHING;
+    }
+    if op < 47 {
+        return rare(op, a, b);
+    }
+    NOTHING
 }
 
 // An operator on two Ints: one choice among all of them, which is made by one jump.
@@ -108,7 +132,8 @@ fn on_ints(op: u64, a: u64, b: u64) -> u64
     on_words(op, a, b)
 }
 
-// An operator on cells that aren't both Ints: `= !=`, AND and OR; what is left of the others may be a text.
+// An operator on cells that aren't both Ints: comparisons, AND and OR; what is left of the others may be a text. `=`, the
+// commonest on texts, goes without a second choice.
 fn on_cells(op: u64, a: u64, b: u64, stored: &[u8]) -> u64
     requires { ⌜ WellFormed (length (now stored)) a × WellFormed (length (now stored)) b ⌝ }
     ensures known { λ r. ⌜ ((r ≡ nothing → ⊥) → IsTwoSided op) ⌝ }
@@ -117,8 +142,11 @@ fn on_cells(op: u64, a: u64, b: u64, stored: &[u8]) -> u64
     if op == 32 {
         return operators::flag(values::equal_cells(a, b, stored));
     }
-    if op == 33 {
-        return operators::flag(!values::equal_cells(a, b, stored));
+    if op < 32 {
+        return NOTHING;
+    }
+    if op < 38 {
+        return operators::flag(operators::compare(op, a, b, stored));
     }
     if op == 48 {
         return decide(48, a, b);
@@ -126,7 +154,7 @@ fn on_cells(op: u64, a: u64, b: u64, stored: &[u8]) -> u64
     if op == 49 {
         return decide(49, a, b);
     }
-    0xffff_ffff_ffff_ffff
+    NOTHING
 }
 
 // A node of any kind on two cells, if it is a two-sided operator.
@@ -142,4 +170,15 @@ pub fn two(op: u64, a: u64, b: u64, stored: &[u8]) -> u64
         return on_cells(op, a, b, stored);
     }
     on_ints(op, a, b)
+}
+
+// UnOp::eval
+pub fn one(op: u64, a: u64) -> u64
+    requires { ⌜ (16 ≤ op) × (op < 19) ⌝ }
+    ensures { λ r. ⌜ ((R : Rules) (stored : List ℕ) → WellFormed (length stored) a → Settled r (unaryOf R op (valueOf stored a))) ⌝ }
+{
+    match operators::unary(Rules { limit: 0 }, op, a, 0) {
+        Answer::Gave(word, _) => word,
+        _ => NOTHING,
+    }
 }

@@ -16,13 +16,13 @@ use Rattle.quick.proofs.Walking.{
   one-below,
   one-stands,
   one-found,
-  two-known,
   two-below,
   left-stands,
   right-stands,
   left-found,
   two-found,
 }
+use Rattle.wordwise.proofs.Settling.{flagged, both-truth}
 use borrow.Fn.Kinds.{In}
 use borrow.Fn.PlainCycle.{Measures, is, falls, and}
 use Rattle.quick.proofs.operand.Reads as operand
@@ -35,9 +35,9 @@ use Rattle.conditions.proofs.decided.Reads as decided-reads
 use Rattle.conditions.proofs.leaf.Reads as leaf-reads
 use Rattle.conditions.proofs.truth.Reads as truth-reads
 use Rattle.operators.proofs.flag.Reads as flag-reads
-use Rattle.quick.proofs.binary.Reads as binary-reads
 use Rattle.quick.proofs.shallow.Reads as shallow-reads
-use Rattle.quick.proofs.unary.Reads as unary-reads
+use Rattle.wordwise.proofs.one.Reads as one-reads
+use Rattle.wordwise.proofs.two.Reads as two-reads
 use Rattle.quick.proofs.+operand+word_of.{statement}
 use Rattle.quick.proofs.+operand+word_of.Tie.{close}
 
@@ -63,7 +63,7 @@ abbrev os : ℕ → operand-lts.Claims
 os t = (shallow-reads.Asked, shallow-reads.Learnt, word-of-below t, word-of.Post)
 
 abbrev ws : ℕ → word-of-lts.Claims
-ws t = (leaf-reads.Asked, leaf-reads.Learnt, operand-below t, operand.Post, unary-reads.Asked, unary-reads.Learnt, decided-reads.Asked, decided-reads.Learnt, truth-reads.Asked, truth-reads.Learnt, flag-reads.Asked, flag-reads.Learnt, binary-reads.Asked, binary-reads.Learnt)
+ws t = (leaf-reads.Asked, leaf-reads.Learnt, operand-below t, operand.Post, one-reads.Asked, one-reads.Learnt, decided-reads.Asked, decided-reads.Learnt, truth-reads.Asked, truth-reads.Learnt, flag-reads.Asked, flag-reads.Learnt, two-reads.Asked, two-reads.Learnt)
 
 operand-shallow-requires : (t : ℕ) → operand-lts.Need-shallow-requires (os t) (operand-at t) operand.Post
 operand-shallow-requires t c κs = c .before .before .before .pre .1
@@ -101,11 +101,11 @@ word-of-operand-requires t c κs = (omega (arith, c .before .before .before .bef
 word-of-returns-2 : (t : ℕ) → word-of-lts.Need-returns-2 (ws t) (word-of-at t) word-of.Post
 word-of-returns-2 t c = λ n. absurd (n refl)
 
-word-of-unary-requires : (t : ℕ) → word-of-lts.Need-unary-requires (ws t) (word-of-at t) word-of.Post
-word-of-unary-requires t c κs = one-known _ _ _ _ _ (c .before .before .before .before .before .before .before .before .pre .1) _ (node-one _ (c .before .before .before .if1 .left) (c .before .before .if2 .taken))
+word-of-one-requires : (t : ℕ) → word-of-lts.Need-one-requires (ws t) (word-of-at t) word-of.Post
+word-of-one-requires t c κs = one-known _ _ _ _ _ (c .before .before .before .before .before .before .before .before .pre .1) _ (node-one _ (c .before .before .before .if1 .left) (c .before .before .if2 .taken))
 
 word-of-returns-3 : (t : ℕ) → word-of-lts.Need-returns-3 (ws t) (word-of-at t) word-of.Post
-word-of-returns-3 t c = λ n. one-found _ _ _ _ _ (c .before .before .before .before .before .before .before .before .before .pre .1) _ (node-one _ (c .before .before .before .before .if1 .left) (c .before .before .before .if2 .taken)) _ _ (c .before .before .operand .ensures (c .before .if3 .left)) (c .unary .ensures n)
+word-of-returns-3 t c = λ n. one-found _ _ _ _ _ (c .before .before .before .before .before .before .before .before .before .pre .1) _ (node-one _ (c .before .before .before .before .if1 .left) (c .before .before .before .if2 .taken)) _ _ (c .before .before .operand .ensures (c .before .if3 .left)) n (c .one .ensures)
 
 word-of-sub-operand-3 : (t : ℕ) → word-of-lts.Need-sub-operand-3 (ws t) (word-of-at t) word-of.Post
 word-of-sub-operand-3 t c = deep _ _ _ _ _ (c .before .before .before .before .before .before .pre .1)
@@ -126,7 +126,7 @@ word-of-flag-requires : (t : ℕ) → word-of-lts.Need-flag-requires (ws t) (wor
 word-of-flag-requires t c κs = search needs
 
 word-of-returns-5 : (t : ℕ) → word-of-lts.Need-returns-5 (ws t) (word-of-at t) word-of.Post
-word-of-returns-5 t c = λ n. let g = (c .before .before .before .before .before .operand2 .ensures (c .before .before .before .before .if4 .left)) in left-found _ _ _ _ _ (c .before .before .before .before .before .before .before .before .before .before .before .before .pre .1) _ _ (node-two _ (c .before .before .before .before .before .before .if2 .left)) _ g _ (c .before .truth .result) (sym (c .before .before .before .decided .ensures _ (g .within)) ∙ c .before .before .if5 .taken) (c .before .truth .ensures _ (g .within)) (c .flag .ensures)
+word-of-returns-5 t c = λ n. let g = (c .before .before .before .before .before .operand2 .ensures (c .before .before .before .before .if4 .left)) in left-found _ _ _ _ _ (c .before .before .before .before .before .before .before .before .before .before .before .before .pre .1) _ _ (node-two _ (c .before .before .before .before .before .before .if2 .left)) _ g _ (c .before .truth .result) (sym (c .before .before .before .decided .ensures _ (g .within)) ∙ c .before .before .if5 .taken) (c .before .truth .ensures _ (g .within)) n (c .flag .ensures)
 
 word-of-sub-operand-4 : (t : ℕ) → word-of-lts.Need-sub-operand-4 (ws t) (word-of-at t) word-of.Post
 word-of-sub-operand-4 t c = two-below _ _ _ _ _ (c .before .before .before .before .before .before .before .before .before .before .pre .1) _ _ (node-two _ (c .before .before .before .before .if2 .left))
@@ -140,11 +140,20 @@ word-of-operand-requires-3 t c κs = (omega (arith, c .before .before .before .b
 word-of-returns-6 : (t : ℕ) → word-of-lts.Need-returns-6 (ws t) (word-of-at t) word-of.Post
 word-of-returns-6 t c = λ n. absurd (n refl)
 
-word-of-binary-requires : (t : ℕ) → word-of-lts.Need-binary-requires (ws t) (word-of-at t) word-of.Post
-word-of-binary-requires t c κs = let k = two-known _ _ _ _ _ (c .before .before .before .before .before .before .before .before .before .before .before .before .pre .1) _ _ (node-two _ (c .before .before .before .before .before .before .if2 .left)) in (k .0, k .1, (c .before .before .before .before .before .operand2 .ensures (c .before .before .before .before .if4 .left)) .within, (c .before .operand3 .ensures (c .if6 .left)) .within)
+word-of-truth-requires-2 : (t : ℕ) → word-of-lts.Need-truth-requires-2 (ws t) (word-of-at t) word-of.Post
+word-of-truth-requires-2 t c κs = search needs
+
+word-of-flag-requires-2 : (t : ℕ) → word-of-lts.Need-flag-requires-2 (ws t) (word-of-at t) word-of.Post
+word-of-flag-requires-2 t c κs = search needs
 
 word-of-returns-7 : (t : ℕ) → word-of-lts.Need-returns-7 (ws t) (word-of-at t) word-of.Post
-word-of-returns-7 t c = λ n. let g = (c .before .before .before .before .before .before .operand2 .ensures (c .before .before .before .before .before .if4 .left)) in two-found _ _ _ _ _ (c .before .before .before .before .before .before .before .before .before .before .before .before .before .pre .1) _ _ (node-two _ (c .before .before .before .before .before .before .before .if2 .left)) _ g (sym (c .before .before .before .before .decided .ensures _ (g .within)) ∙ c .before .before .before .if5 .left) _ _ (c .before .before .operand3 .ensures (c .before .if6 .left)) (c .binary .ensures n)
+word-of-returns-7 t c = λ n. let g = (c .before .before .before .before .before .before .before .before .operand2 .ensures (c .before .before .before .before .before .before .before .if4 .left)) in let h = (c .before .before .before .before .operand3 .ensures (c .before .before .before .if6 .left)) in two-found _ _ _ _ _ (c .before .before .before .before .before .before .before .before .before .before .before .before .before .before .before .pre .1) _ _ (node-two _ (c .before .before .before .before .before .before .before .before .before .if2 .left)) _ g _ _ h n (λ R. flagged _ _ _ (c .flag2 .ensures) (both-truth R _ _ _ _ (sym (c .before .before .before .before .before .before .decided .ensures _ (g .within)) ∙ c .before .before .before .before .before .if5 .left) (c .before .before .if7 .taken) (c .before .truth2 .ensures _ (h .within))))
+
+word-of-two-requires : (t : ℕ) → word-of-lts.Need-two-requires (ws t) (word-of-at t) word-of.Post
+word-of-two-requires t c κs = ((c .before .before .before .before .before .before .operand2 .ensures (c .before .before .before .before .before .if4 .left)) .within, (c .before .before .operand3 .ensures (c .before .if6 .left)) .within)
+
+word-of-returns-8 : (t : ℕ) → word-of-lts.Need-returns-8 (ws t) (word-of-at t) word-of.Post
+word-of-returns-8 t c = λ n. two-found _ _ _ _ _ (c .before .before .before .before .before .before .before .before .before .before .before .before .before .before .pre .1) _ _ (node-two _ (c .before .before .before .before .before .before .before .before .if2 .left)) _ (c .before .before .before .before .before .before .before .operand2 .ensures (c .before .before .before .before .before .before .if4 .left)) _ _ (c .before .before .before .operand3 .ensures (c .before .before .if6 .left)) n (c .two .ensures .1)
 
 pub +operand+word-of-spec : {M : Type 1} → statement M
 +operand+word-of-spec = close μ-operand μ-word-of (λ t. operand-lts.spec (os t)
@@ -159,16 +168,16 @@ pub +operand+word-of-spec : {M : Type 1} → statement M
       leaf-reads.Learnt,
       operand-below t,
       operand.Post,
-      unary-reads.Asked,
-      unary-reads.Learnt,
+      one-reads.Asked,
+      one-reads.Learnt,
       decided-reads.Asked,
       decided-reads.Learnt,
       truth-reads.Asked,
       truth-reads.Learnt,
       flag-reads.Asked,
       flag-reads.Learnt,
-      binary-reads.Asked,
-      binary-reads.Learnt,
+      two-reads.Asked,
+      two-reads.Learnt,
     )
     (word-of-at t)
     word-of.Post
@@ -180,7 +189,7 @@ pub +operand+word-of-spec : {M : Type 1} → statement M
     (word-of-sub-operand-2 t)
     (word-of-operand-requires t)
     (word-of-returns-2 t)
-    (word-of-unary-requires t)
+    (word-of-one-requires t)
     (word-of-returns-3 t)
     (word-of-sub-operand-3 t)
     (word-of-operand-requires-2 t)
@@ -193,5 +202,8 @@ pub +operand+word-of-spec : {M : Type 1} → statement M
     (word-of-sub-operand-5 t)
     (word-of-operand-requires-3 t)
     (word-of-returns-6 t)
-    (word-of-binary-requires t)
+    (word-of-truth-requires-2 t)
+    (word-of-flag-requires-2 t)
     (word-of-returns-7 t)
+    (word-of-two-requires t)
+    (word-of-returns-8 t)

@@ -5,7 +5,7 @@ use lib.ListN.{length, getD}
 use native.Mathlib.Omega.{arith}
 use borrow.Author.Needs.{needs, scaled-fits}
 use Rattle.conditions.proofs.Leaves.{leaf-node}
-use Rattle.quick.proofs.Walking.{node-leaf, node-two, undecided, in-table, leaf-sound, leaf-found, two-known, left-below, two-below, left-stands, right-stands, two-found}
+use Rattle.quick.proofs.Walking.{node-leaf, node-two, in-table, leaf-sound, leaf-found, left-below, two-below, left-stands, right-stands, two-found}
 use Rattle.quick.proofs.shallow.Statement.{statement}
 use Rattle.quick.proofs.shallow.Tie as tie
 
@@ -61,11 +61,11 @@ leaf-requires-2 c κs = leaf-sound _ _ _ _ _ (left-stands _ _ _ _ _ (c .before .
 leaf-requires-3 : tie.Need-leaf-requires-3
 leaf-requires-3 c κs = leaf-sound _ _ _ _ _ (right-stands _ _ _ _ _ (c .before .before .before .before .before .before .before .before .before .before .before .before .pre) _ _ (node-two _ (c .before .before .before .before .before .before .if2 .left))) _ (leaf-node _ (c .before .if5 .left))
 
-binary-requires : tie.Need-binary-requires
-binary-requires c κs = let e = two-known _ _ _ _ _ (c .before .before .before .before .before .before .before .before .before .before .before .before .before .pre) _ _ (node-two _ (c .before .before .before .before .before .before .before .if2 .left)) in (e .0, e .1, c .before .leaf2 .ensures .within, c .leaf3 .ensures .within)
+two-requires : tie.Need-two-requires
+two-requires c κs = (c .before .leaf2 .ensures .within, c .leaf3 .ensures .within)
 
 returns-6 : tie.Need-returns-6
-returns-6 c = λ n. two-found _ _ _ _ _ (c .before .before .before .before .before .before .before .before .before .before .before .before .before .before .pre) _ _ (node-two _ (c .before .before .before .before .before .before .before .before .if2 .left)) _ (leaf-found _ _ _ _ _ (left-stands _ _ _ _ _ (c .before .before .before .before .before .before .before .before .before .before .before .before .before .before .pre) _ _ (node-two _ (c .before .before .before .before .before .before .before .before .if2 .left))) _ _ (leaf-node _ (c .before .before .before .before .if4 .left)) (c .before .before .leaf2 .ensures)) (undecided _ _ (c .before .before .before .before .before .before .before .if3 .left)) _ _ (leaf-found _ _ _ _ _ (right-stands _ _ _ _ _ (c .before .before .before .before .before .before .before .before .before .before .before .before .before .before .pre) _ _ (node-two _ (c .before .before .before .before .before .before .before .before .if2 .left))) _ _ (leaf-node _ (c .before .before .before .if5 .left)) (c .before .leaf3 .ensures)) (c .binary .ensures n)
+returns-6 c = λ n. two-found _ _ _ _ _ (c .before .before .before .before .before .before .before .before .before .before .before .before .before .before .pre) _ _ (node-two _ (c .before .before .before .before .before .before .before .before .if2 .left)) _ (leaf-found _ _ _ _ _ (left-stands _ _ _ _ _ (c .before .before .before .before .before .before .before .before .before .before .before .before .before .before .pre) _ _ (node-two _ (c .before .before .before .before .before .before .before .before .if2 .left))) _ _ (leaf-node _ (c .before .before .before .before .if4 .left)) (c .before .before .leaf2 .ensures)) _ _ (leaf-found _ _ _ _ _ (right-stands _ _ _ _ _ (c .before .before .before .before .before .before .before .before .before .before .before .before .before .before .pre) _ _ (node-two _ (c .before .before .before .before .before .before .before .before .if2 .left))) _ _ (leaf-node _ (c .before .before .before .if5 .left)) (c .before .leaf3 .ensures)) n (c .two .ensures .1)
 
 pub shallow-spec : {M : Type 1} → statement M
 shallow-spec =
@@ -86,5 +86,5 @@ shallow-spec =
     returns-5
     leaf-requires-2
     leaf-requires-3
-    binary-requires
+    two-requires
     returns-6)

@@ -71,6 +71,18 @@ returns-7 c = (λ n. two-sided-truth _ 49 (c .before .if7 .taken) (omega arith) 
 returns-8 : tie.Need-returns-8
 returns-8 c = (λ n. absurd (n refl), none-given _ _ _)
 
+rare-requires : tie.Need-rare-requires
+rare-requires c κs = search needs
+
+returns-9 : tie.Need-returns-9
+returns-9 c = (
+  λ n. two-sided _ _ refl (omega (arith, c .before .before .if8 .left)) (c .before .if9 .taken),
+  ints-given _ _ _ _ (c .before .before .if8 .left) (c .before .if9 .taken) (c .before .before .before .before .before .before .before .before .before .before .pre) (c .rare .ensures),
+)
+
+returns-10 : tie.Need-returns-10
+returns-10 c = (λ n. absurd (n refl), none-given _ _ _)
+
 pub on-words-spec : {M : Type 1} → statement M
 on-words-spec =
     tie.close
@@ -89,4 +101,7 @@ on-words-spec =
     returns-6
     decide-requires-2
     returns-7
-    returns-8)
+    returns-8
+    rare-requires
+    returns-9
+    returns-10)
