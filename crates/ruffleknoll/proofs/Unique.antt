@@ -9,6 +9,7 @@ use Rattle.writing.specs.declared.Written.{Written}
 use Rattle.folding.specs.Call as folding
 use Rattle.folding.specs.Call.{FoldIs}
 use Rattle.replacing.specs.Fold.{Folding}
+use Rattle.naming.specs.OneSide.{Head}
 use Rattle.heads.specs.Heads as heads
 use Rattle.heads.specs.Heads.{HeadIs}
 use Rattle.evaluation.specs.Evaluation.{Says, evaluation}
@@ -87,7 +88,7 @@ module _ (used : ℕ) (text text′ : List ℕ) (s : SameBelow used text text′
         }
 
   module _ (pads : Bool) (leftName left rightName right out after after′ written written′ : List ℕ) where
-    abbrev headed : heads.Head
+    abbrev headed : Head
     headed = heads.head pads leftName left rightName right (take used text) (length text) used (length out)
 
     -- the text below the mark that is told, too; inner_join_columns and left_join_columns
