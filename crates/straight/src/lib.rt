@@ -133,7 +133,7 @@ fn run(b: &[u8], row: &[u64], stored: &[u8]) -> u64
             return NOTHING;
         }
         n -= 1;
-        top = wordwise::two(k, stack[n], top, stored);
+        top = stepwise::two(k, stack[n], top, stored);
         if top == NOTHING {
             return top;
         }

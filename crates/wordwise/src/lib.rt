@@ -134,7 +134,7 @@ fn on_ints(op: u64, a: u64, b: u64) -> u64
 
 // An operator on cells that aren't both Ints: comparisons, AND and OR; what is left of the others may be a text. `=`, the
 // commonest on texts, goes without a second choice.
-fn on_cells(op: u64, a: u64, b: u64, stored: &[u8]) -> u64
+pub fn on_cells(op: u64, a: u64, b: u64, stored: &[u8]) -> u64
     requires { ⌜ WellFormed (length (now stored)) a × WellFormed (length (now stored)) b ⌝ }
     ensures known { λ r. ⌜ ((r ≡ nothing → ⊥) → IsTwoSided op) ⌝ }
     ensures is { λ r. ⌜ ((R : Rules) → Settled r (onBoth R op (valueOf (now (stored .entry)) a) (valueOf (now (stored .entry)) b))) ⌝ }
