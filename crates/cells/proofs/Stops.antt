@@ -1,5 +1,5 @@
 -- What the check of a word says. Assumes nothing.
-use mathlib.Core.Path.{_≡_, refl, sym, ap, _∙_}
+use mathlib.Core.Path.{_≡_, refl, sym, _∙_}
 use mathlib.Core.Bool.{Bool, true, false, not}
 use Prim.Native.Nat.{ℕ, _+_, _*_, _^_, _/_, _%_, _≤_, _<_}
 use native.Mathlib.Omega.{arith}
@@ -7,7 +7,7 @@ use mathlib.Core.List.{List, []}
 use lib.ListN.{length, replicate, length-replicate}
 use lib.Dec.{eqb, ltb}
 use borrow.Author.Tests.{eq-eqb, ne-eqb, eqb-true, eqb-false, lt-ltb, le-ltb, ltb-false}
-use Rattle.refusals.specs.Stop.{Stop, never, stop, stopIf, orElse}
+use Rattle.refusals.specs.Stop.{never, stop, stopIf, orElse}
 use Rattle.cells.specs.Cell.{kindOf, bodyOf, bodiesOf, isCell, startOf, lengthOf, reachesBeyond, cellStop, WellFormed, Inside, refOf, wordOf}
 use mir.Syntax.{w32}
 use mir.Val.{ofZ}

@@ -6,10 +6,10 @@ use native.Mathlib.Omega.{arith}
 use lib.IntN.{ℤ, pos, negsuc, _+ℤ_, _-ℤ_, natAbs}
 use lib.Signed.{mag, ltZ, nonNeg}
 use lib.Dec.{T}
-use borrow.Author.Tests.{lt-ltb, le-ltb, ltb-true}
+use borrow.Author.Tests.{lt-ltb, le-ltb}
 use mir.Syntax.{w32, w64}
 use mir.Val.{Fits, SFits, toZ, ofZ}
-use mir.Facts.{toZ-ofZ, toZ-pos, sfits-widen, fits-ofZ}
+use mir.Facts.{toZ-ofZ, sfits-widen, fits-ofZ}
 use Rattle.refusals.proofs.Bools.{true-false}
 
 -- ---- from a number to its bits

@@ -1,5 +1,5 @@
 -- Cells from a place on: a turn of a loop over them, its end, and what cells that are not refused are. Assumes nothing.
-use mathlib.Core.Path.{_≡_, refl, sym, ap, _∙_}
+use mathlib.Core.Path.{_≡_, refl}
 use mathlib.Core.List.{List, [], _∷_}
 use Prim.Native.Nat.{ℕ, zero, suc, _+_, _≤_, _<_}
 use native.Mathlib.Omega.{arith}
@@ -9,7 +9,7 @@ use lib.Seq.{drop-cons}
 use mathlib.Core.Bool.{Bool, true, false}
 use lib.Dec.{ltb}
 use borrow.Author.Tests.{ltb-false}
-use Rattle.refusals.specs.Stop.{Stop, never, stopIf, orElse}
+use Rattle.refusals.specs.Stop.{never, stopIf, orElse}
 use Rattle.refusals.proofs.First.{never-both}
 use Rattle.cells.specs.Cell.{cellStop, WellFormed}
 use Rattle.cells.proofs.Stops.{well-formed}

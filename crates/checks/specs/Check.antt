@@ -1,4 +1,4 @@
--- Checks that the calls share: the text, its mark and the room above it; cells one after another. Assumes nothing: these are definitions.
+-- Checks that the calls share: the text, its mark and the room above it; the output's length; cells one after another. Assumes nothing: these are definitions.
 use Prim.Native.Nat.{ℕ, suc, _+_}
 use mathlib.Core.List.{List, [], _∷_}
 use lib.Dec.{ltb}
@@ -13,6 +13,10 @@ roomStop needed size used =
 -- 10: an output below 448 bytes, where a condition is written
 abbrev pub outputStop : ℕ → Stop
 outputStop output = stopIf (ltb output 448) 10 0
+
+-- 9: an output shorter than the whole result, with what the result takes
+abbrev pub shortStop : ℕ → ℕ → Stop
+shortStop output needed = stopIf (ltb output needed) 9 needed
 
 -- 8 and 3 over cells, words counted through, the first one having this place
 unfoldable pub cellsStop : ℕ → ℕ → List ℕ → Stop

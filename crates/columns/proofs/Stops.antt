@@ -1,11 +1,11 @@
 -- What the check of a name word says. Assumes nothing.
-use mathlib.Core.Path.{_≡_, refl, sym, ap, _∙_}
+use mathlib.Core.Path.{_≡_, refl}
 use mathlib.Core.Bool.{Bool, true, false, not, cond}
 use Prim.Native.Nat.{ℕ, _+_, _≤_, _<_}
 use native.Mathlib.Omega.{arith}
-use lib.Dec.{eqb, leb}
+use lib.Dec.{eqb}
 use borrow.Author.Tests.{eq-eqb, ne-eqb, le-leb, lt-leb, eqb-true}
-use Rattle.refusals.specs.Stop.{Stop, never, stop, stopIf, orElse}
+use Rattle.refusals.specs.Stop.{never, stop, stopIf, orElse}
 use Rattle.cells.specs.Cell.{kindOf, startOf, lengthOf, isCell, reachesBeyond}
 use Rattle.cells.proofs.Stops.{ends-inside}
 use Rattle.columns.specs.Column.{isText, isNameLength, nameStop}

@@ -2,18 +2,17 @@
 use mathlib.Core.Path.{_≡_, refl, sym, ap, _∙_}
 use mathlib.Core.Bool.{Bool, true, false}
 use mathlib.Core.List.{List, [], _∷_}
-use Prim.Native.Nat.{ℕ, zero, suc, _+_, _≤_, _<_}
+use Prim.Native.Nat.{ℕ, suc, _+_, _≤_, _<_}
 use native.Mathlib.Omega.{arith}
-use native.Mathlib.Nat.{add-assoc}
 use native.Mathlib.Numerals.{add-one}
 use lib.ListN.{length, drop, getD, length-drop}
 use lib.Seq.{drop-cons}
-use Rattle.refusals.specs.Stop.{Stop, never, orElse}
+use Rattle.refusals.specs.Stop.{never, orElse}
 use Rattle.refusals.proofs.First.{never-both}
 use Rattle.slices.specs.Splice.{piece}
 use Rattle.slices.specs.Bytes.{sameBytes}
 use Rattle.cells.specs.Cell.{startOf, lengthOf}
-use Rattle.columns.specs.Column.{columnStop, columnsStop, nameStop, names, Where, nowhere, found, firstFrom, columnNamed}
+use Rattle.columns.specs.Column.{columnStop, columnsStop, names, nowhere, found, firstFrom, columnNamed}
 use Rattle.columns.proofs.Stops.{name-inside}
 
 -- two elements, then the rest

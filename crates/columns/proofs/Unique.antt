@@ -5,7 +5,6 @@ use native.Mathlib.Omega.{arith}
 use Rattle.columns.specs.Column.{Where, nowhere, found, foundOf}
 use Rattle.columns.specs.declared.Found.{Found}
 use Rattle.columns.specs.declared.Found.the-variants.{At, Nothing}
-use Rattle.columns.specs.declared.ColumnNumber.{ColumnNumber}
 
 numbered : Where → Found
 numbered nowhere = Nothing

@@ -1,7 +1,7 @@
 -- A table's columns: two words each, a name and a rule (document 01, "Words and bytes" and "Refusals by number").
 -- Assumes nothing: these are definitions.
 use Prim.Native.Nat.{ℕ, suc, _+_}
-use mathlib.Core.Bool.{Bool, true, false, not, cond}
+use mathlib.Core.Bool.{Bool, false, not, cond}
 use mathlib.Core.List.{List, [], _∷_}
 use lib.Dec.{leb, eqb}
 use Rattle.refusals.specs.Stop.{Stop, never, stopIf, orElse, firstOf}

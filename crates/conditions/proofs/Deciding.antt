@@ -1,10 +1,9 @@
 -- AND and OR, and what a two-sided operator gives. Assumes nothing.
-use mathlib.Core.Path.{_≡_, refl}
 use mathlib.Core.Bool.{Bool, true, false, cond}
 use Prim.Native.Nat.{ℕ}
 use lib.Dec.{ltb}
 use Rattle.values.specs.Value.{Value, toBool, fromBool}
-use Rattle.integers.specs.Outcome.{Outcome, value}
+use Rattle.integers.specs.Outcome.{value}
 use Rattle.operators.specs.Operator.{binaryOf}
 use Rattle.operators.specs.declared.Rules.{Rules}
 use Rattle.operators.proofs.Holding.{Int32, Holds, holds-binary, holds-truth}

@@ -1,24 +1,22 @@
 -- From an operator's exact result to what an evaluation's answer says. Assumes nothing.
-use mathlib.Core.Path.{_≡_, refl, sym, ap, ap₂, subst, _∙_}
-use mathlib.Core.List.{List, [], _∷_, _++_}
-use Prim.Native.Nat.{ℕ, _+_, _≤_, _^_}
+use mathlib.Core.Path.{_≡_, refl, sym, ap, _∙_}
+use mathlib.Core.List.{List, [], _∷_}
+use Prim.Native.Nat.{ℕ, _+_, _≤_}
 use native.Mathlib.Omega.{arith}
-use native.Mathlib.Nat.{add-zero}
-use lib.ListN.{length, take, drop}
+use lib.ListN.{length, take}
 use lib.Seq.{take-take, length-take-le, drop-at, take-all}
-use lib.IntN.{ℤ}
-use Rattle.slices.specs.Splice.{piece, splice}
+use Rattle.slices.specs.Splice.{piece}
 use Rattle.slices.proofs.Splice.{take-splice, front-splice}
 use Rattle.slices.proofs.Pieces.{piece-take}
 use denote.Enum.Declared.{tagOf}
 use types.Run.{OneOf, miss}
-use Rattle.cells.specs.Cell.{WellFormed, Inside, kindOf, startOf, lengthOf, refOf, wordOf}
+use Rattle.cells.specs.Cell.{WellFormed, Inside, refOf, wordOf}
 use Rattle.cells.proofs.Words.{Sized, ref-back}
 use Rattle.cells.proofs.Stops.{well-word, well-inside, inside-more}
 use Rattle.cells.specs.declared.ValueRef.{ValueRef}
 use Rattle.cells.specs.declared.ValueRef.the-variants.{Null, Int, Str, Binary}
 use Rattle.values.specs.Value.{Value, null, int, str, binary, toValue, valueOf}
-use Rattle.integers.specs.Outcome.{Outcome, value, Reply, gave, replyOf, cellAt, rise, placed}
+use Rattle.integers.specs.Outcome.{Outcome, value, Reply, replyOf, cellAt, rise, placed}
 use Rattle.integers.specs.declared.Answer.{Answer}
 use Rattle.integers.specs.declared.Answer.the-variants.{Gave, Overflow, ShiftAmount, TooLong}
 use Rattle.integers.proofs.Answer.{the-type}

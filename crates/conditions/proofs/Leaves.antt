@@ -7,9 +7,9 @@ use lib.ListN.{length, getD, List·getD-map}
 use mathlib.Core.Bool.{Bool, true, false, cond}
 use lib.Dec.{eqb}
 use borrow.Author.Tests.{eq-eqb, ne-eqb, lt-ltb}
-use Rattle.cells.specs.Cell.{WellFormed, refOf}
+use Rattle.cells.specs.Cell.{WellFormed}
 use Rattle.cells.proofs.Words.{ref-null}
-use Rattle.values.specs.Value.{Value, null, toValue, valueOf}
+use Rattle.values.specs.Value.{null, toValue, valueOf}
 use Rattle.integers.specs.Outcome.{value}
 use Rattle.conditions.specs.Ast.{eval}
 use Rattle.conditions.specs.Table.{nodeOf, leafOf, LeafSound, rowOf, RowSound, LeafIs}

@@ -1,27 +1,22 @@
 -- Where the cell of an answer lies. Assumes nothing.
-use mathlib.Core.Path.{_≡_, refl, sym, ap, _∙_}
+use mathlib.Core.Path.{_≡_}
 use mathlib.Core.List.{List, [], _∷_}
-use mathlib.Core.Bool.{Bool, true, false}
 use Prim.Native.Nat.{ℕ, _+_, _*_, _^_, _/_, _%_, _≤_, _<_}
 use native.Mathlib.Omega.{arith}
-use lib.ListN.{length, take}
-use lib.Seq.{length-take-le}
-use lib.IntN.{ℤ}
+use lib.ListN.{length}
 use denote.Enum.Declared.{tagOf}
 use types.Run.{OneOf, miss}
 use mir.Syntax.{w32}
-use mir.Val.{SFits, ofZ}
+use mir.Val.{ofZ}
 use mir.Facts.{fits-ofZ}
-use Rattle.cells.specs.Cell.{WellFormed, kindOf, startOf, wordOf}
-use Rattle.values.specs.Value.{Value, null, int, str, binary, valueOf, fromBool}
-use Rattle.integers.specs.Outcome.{Outcome, value, Reply, gave, replyOf, cellAt, placed}
+use Rattle.cells.specs.Cell.{kindOf, startOf, wordOf}
+use Rattle.values.specs.Value.{Value, null, int, str, binary}
+use Rattle.integers.specs.Outcome.{Outcome, value, gave, replyOf, cellAt, placed}
 use Rattle.integers.specs.declared.Answer.{Answer}
 use Rattle.integers.specs.declared.Answer.the-variants.{Gave, Overflow, ShiftAmount, TooLong}
 use Rattle.integers.proofs.Answer.{the-type}
-use Rattle.operators.specs.Operator.{unaryOf}
-use Rattle.operators.specs.declared.Rules.{Rules}
-use Rattle.operators.proofs.Holding.{Fitting, Holds, holds-unary, holds-truth}
-use Rattle.conditions.specs.Table.{nodeOf, leafCell, LiesAt, Lies, LeafIs}
+use Rattle.operators.proofs.Holding.{Fitting, Holds}
+use Rattle.conditions.specs.Table.{Lies, LeafIs}
 use Rattle.conditions.specs.declared.Node.{Node}
 use Rattle.conditions.specs.declared.Node.the-variants.{Leaf, One, Two}
 

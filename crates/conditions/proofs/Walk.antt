@@ -2,7 +2,7 @@
 -- None of them looks into `unaryOf` or `binaryOf`. Assumes nothing.
 use mathlib.Core.Path.{_≡_, refl, sym, ap, subst, _∙_}
 use mathlib.Core.List.{List, [], _∷_}
-use mathlib.Core.Bool.{Bool, true, false, cond}
+use mathlib.Core.Bool.{Bool, true, false}
 use Prim.Native.Nat.{ℕ, zero, suc, _+_, _-_, _*_, _≤_, _<_}
 use native.Mathlib.Omega.{arith}
 use native.Mathlib.Numerals.{sub-one}
@@ -12,8 +12,8 @@ use denote.Enum.Declared.{tagOf}
 use types.Run.{OneOf}
 use Rattle.cells.specs.Cell.{WellFormed}
 use Rattle.cells.proofs.Stops.{inside-more}
-use Rattle.values.specs.Value.{Value, valueOf, toBool, fromBool}
-use Rattle.integers.specs.Outcome.{Outcome, value, gave, replyOf, placed}
+use Rattle.values.specs.Value.{valueOf, toBool, fromBool}
+use Rattle.integers.specs.Outcome.{value, gave, replyOf, placed}
 use Rattle.integers.specs.declared.Answer.{Answer}
 use Rattle.integers.specs.declared.Answer.the-variants.{Gave}
 use Rattle.integers.proofs.Answer.{the-type}
@@ -21,7 +21,7 @@ use Rattle.operators.specs.Operator.{unaryOf, Applied, Room}
 use Rattle.operators.specs.declared.Rules.{Rules}
 use Rattle.operators.proofs.ByKind.{plain-unary, plain-flag}
 use Rattle.operators.proofs.Holding.{holds-unary, holds-truth, value-int32}
-use Rattle.conditions.specs.Ast.{Ast, Tree, leaf, unary, binary, size, height, joins, eval, decides, twoSided, andThen}
+use Rattle.conditions.specs.Ast.{Tree, leaf, unary, binary, size, height, joins, eval, decides, twoSided}
 use Rattle.conditions.specs.Table.{nodeOf, leafOf, grow, treeOf, LeafSound, SoundAt, Sound, rowOf, RowSound, Asks, Says, Gives, Answers, LeafIs, Lies}
 use Rattle.conditions.specs.declared.Node.the-variants.{Leaf, One, Two}
 use Rattle.conditions.proofs.Giving.{handed-on, says-more, kept-trans, applied-gives, value-more}

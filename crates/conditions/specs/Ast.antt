@@ -1,7 +1,7 @@
 -- Conditions as trees, and what one comes to on a row: Ast and Ast::eval of expr.rs. Assumes nothing: these are definitions.
 use Prim.Native.Nat.{ℕ, _+_, max}
 use mathlib.Core.List.{List}
-use mathlib.Core.Bool.{Bool, true, false, not, cond}
+use mathlib.Core.Bool.{Bool, false, not, cond}
 use lib.ListN.{getD}
 use lib.Dec.{ltb, eqb}
 use Rattle.values.specs.Value.{Value, null, toBool, fromBool}

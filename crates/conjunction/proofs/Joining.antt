@@ -1,11 +1,11 @@
 -- The joined bytes, written one condition after the other. Assumes nothing.
-use mathlib.Core.Path.{_≡_, refl, sym, ap, subst, _∙_}
+use mathlib.Core.Path.{_≡_, refl, sym, ap, _∙_}
 use mathlib.Core.List.{List, [], _∷_, _++_}
 use Prim.Native.Nat.{ℕ, _+_, _≤_, _<_}
 use native.Mathlib.Omega.{arith}
 use lib.ListN.{length, take, set, length-append}
 use lib.Seq.{length-take-le}
-use Rattle.slices.specs.Splice.{splice, Wrote}
+use Rattle.slices.specs.Splice.{Wrote}
 use Rattle.slices.proofs.Splice.{wrote-then, wrote-length, wrote-front, wrote-one}
 use Rattle.refusals.specs.Stop.{never, stopOf, countedFrom, orElse}
 use Rattle.refusals.specs.declared.Refusal.{Refusal}

@@ -1,8 +1,8 @@
 -- Which check stops `with`, and what is known where none of them does. Assumes nothing.
-use mathlib.Core.Path.{_≡_, refl, ap, subst, _∙_}
+use mathlib.Core.Path.{_≡_, refl, ap, subst}
 use mathlib.Core.Bool.{Bool, true, false}
 use mathlib.Core.List.{List, [], _∷_}
-use Prim.Native.Nat.{ℕ, _+_, _≤_}
+use Prim.Native.Nat.{ℕ, _≤_}
 use native.Mathlib.Omega.{arith}
 use native.Mathlib.Nat.{zero-add}
 use lib.ListN.{length}
@@ -21,7 +21,7 @@ use Rattle.forms.specs.Held.{ScanIs}
 use Rattle.forms.specs.declared.Scanned.{Scanned}
 use Rattle.forms.specs.declared.Scanned.the-variants.{Table, Denied}
 use Rattle.postfix.proofs.Lengths.{parsed-length, parsed-place}
-use Rattle.conjunction.specs.With.{conjunction, oldStop, eachStop}
+use Rattle.conjunction.specs.With.{oldStop, eachStop}
 
 pub counted-zero : (s : Stop) → countedFrom 0 s ≡ s
 counted-zero never = refl

@@ -1,7 +1,6 @@
 // The call `with`: AND of an old and a new condition.
 ghost use mathlib.Core.Path.{_≡_};
-ghost use Prim.Native.Nat.{_+_, _<_, _≤_};
-ghost use mathlib.Core.List.{List};
+ghost use Prim.Native.Nat.{_+_, _≤_};
 ghost use lib.ListN.{length};
 ghost use Rattle.slices.specs.Splice.{Wrote};
 ghost use Rattle.refusals.specs.Stop.{checkedOf, countedFrom};

@@ -1,4 +1,4 @@
--- A bound condition whose numbers are columns': its tree has true-false named column, and each number is below the width. Assumes nothing.
+-- A bound condition whose numbers are columns': its tree has no named column, and each number is below the width. Assumes nothing.
 use mathlib.Core.Path.{_≡_, refl, sym, _∙_}
 use mathlib.Core.Bool.{Bool, true, false, not, cond}
 use mathlib.Core.List.{List, [], _∷_}
@@ -16,7 +16,8 @@ use Rattle.conditions.specs.Ast.{Tree, leaf, unary, binary, height}
 use Rattle.nodes.specs.Kind.{known, allows, isKind, bodyOf, leafWord, textFits, two, four}
 use Rattle.nodes.specs.declared.Allowed.the-variants.{Bound}
 use Rattle.nodes.proofs.Bodies.{known-leaf}
-use Rattle.forms.specs.Form.{Parsed, tree, refusal, Move, go, stop as halt, pushed, onOne, onTwo, nodeAt, finish, follow, parse, parsed}
+use Rattle.nodes.proofs.Numbers.{two-small, four-small}
+use Rattle.forms.specs.Form.{tree, refusal, Move, go, stop as halt, pushed, onOne, onTwo, nodeAt, finish, follow, parse}
 use Rattle.forms.specs.Number.{isMissing, numbersStop}
 
 -- every column is below the width, and none stands by its name
@@ -30,12 +31,6 @@ AllNarrow width [] = Unit {0}
 AllNarrow width (t ∷ s) = Narrow width t × AllNarrow width s
 
 module _ (width used at : ℕ) (b : List ℕ) (B : (i : ℕ) → getD b i 0 < 256) where
-  two-small : (i : ℕ) → two b i < 65536
-  two-small i = omega (arith, B i, B (i + 1))
-
-  four-small : (i : ℕ) → four b i < 2 ^ 32
-  four-small i = omega (arith, two-small i, two-small (i + 2))
-
   literal-narrow : (w : ℕ) → (w / 2 ^ 56 ≡ 4 → ⊥) → (w / 2 ^ 56 ≡ 3 → ⊥) → Narrow width (leaf w)
   unfolding Narrow
   literal-narrow w n m = rw (ne-eqb (w / 2 ^ 56) 4 n, ne-eqb (w / 2 ^ 56) 3 m) tt
@@ -49,10 +44,10 @@ module _ (width used at : ℕ) (b : List ℕ) (B : (i : ℕ) → getD b i 0 < 25
   unfolding leafWord
   leaf-narrow zero l n h = literal-narrow 0 (λ e. omega arith) (λ e. omega arith)
   leaf-narrow (suc zero) l n h =
-      let w : 1 * 2 ^ 56 + four b (at + 1) < 2 * 2 ^ 56 = omega (arith, four-small (at + 1)) in
+      let w : 1 * 2 ^ 56 + four b (at + 1) < 2 * 2 ^ 56 = omega (arith, four-small b B (at + 1)) in
       literal-narrow (1 * 2 ^ 56 + four b (at + 1)) (λ e. omega arith) (λ e. omega arith)
   leaf-narrow (suc (suc zero)) l n h =
-      let w : 2 * 2 ^ 56 + (four b (at + 1) * 65536 + two b (at + 5)) < 3 * 2 ^ 56 = omega (arith, four-small (at + 1), two-small (at + 5)) in
+      let w : 2 * 2 ^ 56 + (four b (at + 1) * 65536 + two b (at + 5)) < 3 * 2 ^ 56 = omega (arith, four-small b B (at + 1), two-small b B (at + 5)) in
       literal-narrow (2 * 2 ^ 56 + (four b (at + 1) * 65536 + two b (at + 5))) (λ e. omega arith) (λ e. omega arith)
   leaf-narrow (suc (suc (suc zero))) l n h = absurd (n refl)
   leaf-narrow (suc (suc (suc (suc zero)))) l n h =

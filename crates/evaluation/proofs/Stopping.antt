@@ -1,17 +1,17 @@
 -- Which check stops an evaluation. Assumes nothing.
-use mathlib.Core.Path.{_≡_, refl, sym, ap, subst, _∙_}
-use mathlib.Core.Bool.{Bool, true, false, not}
+use mathlib.Core.Path.{_≡_, sym, subst}
+use mathlib.Core.Bool.{true, false, not}
 use mathlib.Core.List.{List}
 use Prim.Native.Nat.{ℕ, _≤_, _<_}
 use lib.ListN.{length}
 use borrow.Author.Tests.{le-leb, lt-leb}
-use Rattle.refusals.specs.Stop.{Stop, never, stop, stopIf, orElse, stopOf}
+use Rattle.refusals.specs.Stop.{never, stop, stopIf, orElse, stopOf}
 use Rattle.refusals.specs.declared.Refusal.{Refusal}
 use Rattle.refusals.proofs.First.{never-both}
 use Rattle.checks.specs.Check.{roomStop, cellsStop}
 use Rattle.conditions.specs.Ast.{Tree}
 use Rattle.nodes.specs.declared.Allowed.the-variants.{Bound}
-use Rattle.forms.specs.Form.{Parsed, tree, refusal, parsed, formStop}
+use Rattle.forms.specs.Form.{tree, refusal, parsed, formStop}
 use Rattle.forms.specs.Held.{ScanIs}
 use Rattle.forms.specs.declared.Scanned.{Scanned}
 use Rattle.forms.specs.declared.Scanned.the-variants.{Table, Denied}

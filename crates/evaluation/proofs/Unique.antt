@@ -1,14 +1,12 @@
 -- Two answers of `evaluate` to the same question are the same, but for the start of a computed text. Assumes nothing.
-use mathlib.Core.Path.{_≡_, refl, sym, ap, subst, _∙_}
+use mathlib.Core.Path.{_≡_, refl, sym, ap, _∙_}
 use mathlib.Core.List.{List}
-use Prim.Native.Nat.{ℕ, _<_}
+use Prim.Native.Nat.{ℕ}
 use native.Mathlib.Omega.{arith}
 use lib.ListN.{take}
-use Rattle.refusals.specs.Told.{told}
 use Rattle.refusals.specs.Stop.{Stop, never, stop, stopOf}
-use Rattle.refusals.specs.declared.Refusal.{Refusal}
 use Rattle.refusals.proofs.Unique.{one-refusal}
-use Rattle.cells.specs.Cell.{WellFormed, refOf, wordOf}
+use Rattle.cells.specs.Cell.{refOf, wordOf}
 use Rattle.cells.specs.declared.ValueRef.{ValueRef}
 use Rattle.cells.specs.declared.ValueRef.the-variants.{Null, Int, Str, Binary}
 use Rattle.cells.proofs.Stops.{never-stops}
@@ -18,7 +16,7 @@ use Rattle.operators.specs.declared.Rules.{Rules}
 use Rattle.conditions.specs.Ast.{Tree, size}
 use Rattle.nodes.specs.declared.Allowed.the-variants.{Bound}
 use Rattle.forms.specs.Form.{tree, parsed}
-use Rattle.evaluation.specs.Evaluation.{Result, gave, EvaluatedIs, Says, evaluation}
+use Rattle.evaluation.specs.Evaluation.{Result, gave, EvaluatedIs}
 use Rattle.evaluation.specs.declared.Evaluated.{Evaluated}
 use Rattle.evaluation.specs.declared.Evaluated.the-variants.{Cell, Refused}
 

@@ -3,7 +3,7 @@
 use mathlib.Core.Path.{_≡_, refl, sym, ap, ap₂, subst, _∙_}
 use mathlib.Core.List.{List, []}
 use mathlib.Core.Bool.{Bool, true, false, cond}
-use Prim.Native.Nat.{ℕ, zero, suc, _+_, _-_, _*_, _^_, _/_, _%_, _≤_, _<_, max}
+use Prim.Native.Nat.{ℕ, zero, suc, _+_, _-_, _*_, _^_, _/_, _%_, _≤_, _<_}
 use native.Mathlib.Omega.{arith}
 use lib.ListN.{length, take, getD}
 use lib.Seq.{take-length}
@@ -18,7 +18,7 @@ use Rattle.integers.specs.declared.Answer.{Answer}
 use Rattle.integers.specs.declared.Answer.the-variants.{Gave, Overflow, ShiftAmount, TooLong}
 use Rattle.operators.specs.declared.Rules.{Rules}
 use Rattle.conditions.specs.Ast.{Tree, Atom, leaf, unary, binary, mapTree, eval, height, size, joins}
-use Rattle.conditions.specs.Table.{nodeOf, leafOf, treeOf, rowOf, leafCell, LeafSound, SoundAt, Sound, RowSound, Asks, Answers, LiesAt, Lies}
+use Rattle.conditions.specs.Table.{nodeOf, leafOf, treeOf, rowOf, leafCell, LeafSound, Sound, Asks, Answers, LiesAt, Lies}
 use Rattle.conditions.specs.declared.Node.the-variants.{Leaf, One, Two}
 use Rattle.conditions.proofs.Giving.{value-more}
 use Rattle.conditions.proofs.Walk.{height-pos}

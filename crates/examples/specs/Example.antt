@@ -1,6 +1,6 @@
 -- What an example is: a call with its inputs, and the answer expected. Assumes nothing: these are definitions.
 use Prim.Native.Nat.{ℕ}
-use mathlib.Core.Bool.{Bool, true, false}
+use mathlib.Core.Bool.{Bool, false}
 use mathlib.Core.List.{List, [], _∷_}
 use lib.Dec.{eqb}
 use Rattle.slices.specs.Bytes.{both, isEqual, sameBytes}

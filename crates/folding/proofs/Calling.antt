@@ -1,12 +1,12 @@
 -- The call `fold`: which check stops it, that 32,768 bytes above the mark and 448 of output always suffice, and what its answer says. Assumes nothing.
 use mathlib.Core.Path.{_≡_, refl, sym, ap, ap₂, subst, _∙_}
 use mathlib.Core.Bool.{Bool, true, false}
-use mathlib.Core.List.{List, _++_}
+use mathlib.Core.List.{List}
 use Prim.Native.Nat.{ℕ, _+_, _-_, _≤_}
 use native.Mathlib.Omega.{arith}
 use native.Mathlib.Nat.{zero-add}
-use lib.ListN.{length, take, length-append}
-use lib.Seq.{length-take-le, take-all}
+use lib.ListN.{length, take}
+use lib.Seq.{length-take-le}
 use lib.Dec.{ltb}
 use borrow.Author.Tests.{ltb-false}
 use Rattle.refusals.specs.Told.{told}
@@ -18,9 +18,9 @@ use Rattle.slices.proofs.Pieces.{take-own}
 use Rattle.checks.specs.Check.{roomStop, outputStop}
 use Rattle.checks.proofs.Turns.{room-there}
 use Rattle.operators.specs.declared.Rules.{Rules}
-use Rattle.conditions.specs.Ast.{Tree, size, joins}
+use Rattle.conditions.specs.Ast.{Tree, size}
 use Rattle.nodes.specs.declared.Allowed.the-variants.{Mixed}
-use Rattle.forms.specs.Form.{tree, refusal, parsed, formStop}
+use Rattle.forms.specs.Form.{parsed, formStop}
 use Rattle.forms.specs.Held.{ScanIs}
 use Rattle.forms.specs.declared.Scanned.{Scanned}
 use Rattle.forms.specs.declared.Scanned.the-variants.{Table, Denied}
@@ -29,12 +29,12 @@ use Rattle.postfix.specs.Postfix.{bytesOf, width}
 use Rattle.postfix.proofs.Reading.{width-size}
 use Rattle.replacing.specs.Fold.{Folding, folded, fold}
 use Rattle.replacing.specs.Walk.{FoldAsks, Gives, Says}
-use Rattle.folding.specs.Call.{foldStop, folding, storedAfter, wrote, Report, FoldIs, PreparedIs}
+use Rattle.folding.specs.Call.{foldStop, folding, wrote, FoldIs, PreparedIs}
 use Rattle.replacing.specs.declared.Part.{Part}
 use Rattle.replacing.specs.declared.Part.the-variants.{Folded, Refused}
 use Rattle.folding.specs.declared.Shortened.the-variants.{Bytes}
 use Rattle.folding.specs.declared.Shortened.{Shortened}
-use Rattle.shortening.proofs.Growing.{Grown, grown}
+use Rattle.shortening.proofs.Growing.{grown}
 
 -- ---- which check stops it
 

@@ -7,7 +7,7 @@ use native.Mathlib.Omega.{arith}
 use lib.ListN.{length, getD, List·getD-eq-default}
 use lib.Dec.{eqb, leb}
 use borrow.Author.Tests.{lt-ltb, le-ltb, eq-eqb, ne-eqb}
-use Rattle.refusals.specs.Stop.{Stop, never, stop}
+use Rattle.refusals.specs.Stop.{never, stop}
 use Rattle.nodes.specs.Kind.{bodyOf}
 use Rattle.forms.specs.Number.{isMissing, numbersStop}
 

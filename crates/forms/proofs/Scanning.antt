@@ -1,25 +1,24 @@
 -- The scan's loop: its invariant, and what each way out of it says. Assumes nothing.
-use mathlib.Core.Path.{_≡_, refl, sym, ap, _∙_, subst}
+use mathlib.Core.Path.{_≡_, refl, ap, _∙_}
 use mathlib.Core.List.{List, [], _∷_}
-use mathlib.Core.Bool.{Bool, true, false, cond}
-use Prim.Native.Nat.{ℕ, zero, suc, _+_, _-_, _*_, _^_, _≤_, _<_}
+use Prim.Native.Nat.{ℕ, zero, suc, _+_, _-_, _≤_, _<_}
 use native.Mathlib.Omega.{arith}
 use native.Mathlib.Nat.{pos-of-ne-zero}
 use lib.Arith.{lt-of-le-ne}
-use lib.ListN.{length, getD, set, length-set, replicate}
+use lib.ListN.{length, getD, set, length-set}
 use lib.Seq.{getD-set-same, getD-set-other}
 use borrow.Author.Tests.{lt-ltb, le-ltb}
 use borrow.Author.Count.{below-more}
 use Rattle.conditions.specs.Ast.{Tree, height, size}
-use Rattle.forms.specs.Form.{Parsed, tree, refusal, Move, go, stop, nodeAt, finish, follow, parse, parsed}
+use Rattle.forms.specs.Form.{refusal, stop, nodeAt, finish, follow, parse, parsed}
 use Rattle.refusals.specs.Told.{told}
 use Rattle.refusals.specs.declared.Refusal.{Refusal}
 use Rattle.nodes.specs.Kind.{leafWord}
 use Rattle.nodes.specs.declared.Allowed.{Allowed}
-use Rattle.forms.specs.Held.{Denotes, Held, Marks, StepIs, StepFine, ScanIs}
+use Rattle.forms.specs.Held.{Held, Marks, StepIs, StepFine, ScanIs}
 use Rattle.forms.specs.declared.Step.{Step}
 use Rattle.forms.specs.declared.Step.the-variants.{Took, Refused}
-use Rattle.forms.specs.declared.Scanned.the-variants.{Table, Denied}
+use Rattle.forms.specs.declared.Scanned.the-variants.{Table}
 
 pub record Scanning (form : Allowed) (used : ℕ) (b nodes starts deeps : List ℕ) (n at : ℕ) : Type 0 where
   pub long : length nodes ≡ 64

@@ -6,15 +6,14 @@ use native.Mathlib.Omega.{arith}
 use native.Mathlib.Nat.{add-sub-cancel, pos-of-ne-zero}
 use lib.ListN.{length, getD, set}
 use lib.Seq.{getD-set-same, getD-set-other}
-use lib.Dec.{leb}
-use borrow.Author.Tests.{lt-ltb, le-ltb, le-leb, lt-leb, eq-eqb}
+use borrow.Author.Tests.{lt-ltb, le-ltb, le-leb, lt-leb}
 use Rattle.conditions.specs.Ast.{Tree, leaf, unary, binary, height, size}
 use Rattle.conditions.specs.Table.{nodeOf}
 use Rattle.conditions.specs.declared.Node.the-variants.{Leaf, One, Two}
 use Rattle.conditions.proofs.Walk.{size-pos}
-use Rattle.forms.specs.Form.{Move, go, stop, pushed, onOne, onTwo}
+use Rattle.forms.specs.Form.{stop, onOne, onTwo}
 use Rattle.forms.specs.Held.{LeafHeld, Denotes, Held, Marks, StepIs}
-use Rattle.forms.specs.declared.Step.the-variants.{Took, Refused}
+use Rattle.forms.specs.declared.Step.the-variants.{Took}
 
 -- the nodes of the words
 one-node : (k : ℕ) → 16 ≤ k → k < 32 → nodeOf (k * 2 ^ 56) ≡ One k

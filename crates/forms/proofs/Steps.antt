@@ -1,17 +1,15 @@
 -- Laws of one step of the scan: which case of the definition holds. Assumes nothing.
-use mathlib.Core.Path.{_≡_, refl, sym, ap, _∙_, subst}
-use mathlib.Core.List.{List, [], _∷_}
-use mathlib.Core.Bool.{Bool, true, false, cond}
-use Prim.Native.Nat.{ℕ, zero, suc, _+_, _-_, _*_, _^_, _≤_, _<_}
+use mathlib.Core.Path.{_≡_, sym, ap, _∙_, subst}
+use mathlib.Core.List.{List, _∷_}
+use mathlib.Core.Bool.{true, false}
+use Prim.Native.Nat.{ℕ, _+_, _-_, _≤_, _<_}
 use native.Mathlib.Omega.{arith}
-use lib.ListN.{length, getD, set}
-use borrow.Author.Tests.{lt-ltb, le-ltb, le-leb, lt-leb, eq-eqb, ne-eqb, ltb-true, ltb-false}
-use lib.Dec.{ltb}
+use lib.ListN.{length, getD}
+use borrow.Author.Tests.{lt-ltb, le-ltb, le-leb, lt-leb}
 use Rattle.conditions.specs.Ast.{Tree, leaf}
-use Rattle.forms.specs.Form.{Move, go, stop, onOne, onTwo, nodeAt}
+use Rattle.forms.specs.Form.{go, stop, onOne, onTwo, nodeAt}
 use Rattle.nodes.specs.Kind.{known, bodyOf, leafWord, textFits}
 use Rattle.nodes.specs.declared.Allowed.{Allowed}
-use Rattle.refusals.specs.Told.{told}
 use Rattle.forms.specs.Held.{Held, Marks, StepIs, StepFine, OperatorFine}
 use Rattle.forms.specs.declared.Step.{Step}
 use Rattle.forms.specs.declared.Step.the-variants.{Took, Refused}

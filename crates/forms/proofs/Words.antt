@@ -1,5 +1,5 @@
 -- The words of leaves: each is a leaf of the table that is held. Assumes nothing.
-use mathlib.Core.Path.{_≡_, refl, _∙_}
+use mathlib.Core.Path.{_≡_, refl}
 use mathlib.Core.List.{List}
 use mathlib.Core.Bool.{true}
 use Prim.Native.Nat.{ℕ, zero, suc, _+_, _*_, _^_, _/_, _%_, _≤_, _<_}
@@ -16,16 +16,11 @@ use Rattle.conditions.specs.declared.Node.the-variants.{Leaf}
 use Rattle.nodes.specs.Kind.{known, leafWord, textFits, two, four}
 use Rattle.nodes.specs.declared.Allowed.{Allowed}
 use Rattle.nodes.proofs.Bodies.{known-leaf}
+use Rattle.nodes.proofs.Numbers.{two-small, four-small}
 use Rattle.forms.specs.Held.{LeafHeld}
 use Rattle.forms.proofs.Stack.{leaf-node}
 
 module _ (used at : ℕ) (b : List ℕ) (B : (i : ℕ) → getD b i 0 < 256) where
-  two-small : (i : ℕ) → two b i < 65536
-  two-small i = omega (arith, B i, B (i + 1))
-
-  four-small : (i : ℕ) → four b i < 2 ^ 32
-  four-small i = omega (arith, two-small i, two-small (i + 2))
-
   -- a word is a leaf that is held
   abbrev Fine : ℕ → Type 0
   Fine w = (nodeOf w ≡ Leaf w) × LeafHeld used w
@@ -38,9 +33,9 @@ module _ (used at : ℕ) (b : List ℕ) (B : (i : ℕ) → getD b i 0 < 256) whe
   unfolding leafWord LeafHeld bodiesOf
   fine-int =
       let x : ℕ = four b (at + 1) in
-      let e : (1 * 2 ^ 56 + x) / 2 ^ 56 ≡ 1 = omega (arith, four-small (at + 1)) in (
-        leaf-node 1 x (lit< tt) (omega (arith, four-small (at + 1))),
-        rw e (stop-never used (1 * 2 ^ 56 + x) 0 (cell-by (1 * 2 ^ 56 + x) 1 (2 ^ 32) e refl (omega (arith, four-small (at + 1)))) (text-by used (1 * 2 ^ 56 + x) 1 e (λ q. omega arith))),
+      let e : (1 * 2 ^ 56 + x) / 2 ^ 56 ≡ 1 = omega (arith, four-small b B (at + 1)) in (
+        leaf-node 1 x (lit< tt) (omega (arith, four-small b B (at + 1))),
+        rw e (stop-never used (1 * 2 ^ 56 + x) 0 (cell-by (1 * 2 ^ 56 + x) 1 (2 ^ 32) e refl (omega (arith, four-small b B (at + 1)))) (text-by used (1 * 2 ^ 56 + x) 1 e (λ q. omega arith))),
       )
 
   fine-text : textFits used b at 2 ≡ true → Fine (leafWord b at 2)
@@ -49,12 +44,12 @@ module _ (used at : ℕ) (b : List ℕ) (B : (i : ℕ) → getD b i 0 < 256) whe
       let s : ℕ = four b (at + 1) in
       let n : ℕ = two b (at + 5) in
       let x : ℕ = s * 65536 + n in
-      let e : (2 * 2 ^ 56 + x) / 2 ^ 56 ≡ 2 = omega (arith, four-small (at + 1), two-small (at + 5)) in
+      let e : (2 * 2 ^ 56 + x) / 2 ^ 56 ≡ 2 = omega (arith, four-small b B (at + 1), two-small b B (at + 5)) in
       let l : s + n ≤ used = leb-true (s + n) used h in
-      let p : (2 * 2 ^ 56 + x) / 65536 % 2 ^ 32 ≡ s = omega (arith, four-small (at + 1), two-small (at + 5)) in
-      let q : (2 * 2 ^ 56 + x) % 65536 ≡ n = omega (arith, two-small (at + 5)) in (
-        leaf-node 2 x (lit< tt) (omega (arith, four-small (at + 1), two-small (at + 5))),
-        rw e (stop-never used (2 * 2 ^ 56 + x) 0 (cell-by (2 * 2 ^ 56 + x) 2 (2 ^ 48) e refl (omega (arith, four-small (at + 1), two-small (at + 5)))) (inside-by used (2 * 2 ^ 56 + x) e (omega arith))),
+      let p : (2 * 2 ^ 56 + x) / 65536 % 2 ^ 32 ≡ s = omega (arith, four-small b B (at + 1), two-small b B (at + 5)) in
+      let q : (2 * 2 ^ 56 + x) % 65536 ≡ n = omega (arith, two-small b B (at + 5)) in (
+        leaf-node 2 x (lit< tt) (omega (arith, four-small b B (at + 1), two-small b B (at + 5))),
+        rw e (stop-never used (2 * 2 ^ 56 + x) 0 (cell-by (2 * 2 ^ 56 + x) 2 (2 ^ 48) e refl (omega (arith, four-small b B (at + 1), two-small b B (at + 5)))) (inside-by used (2 * 2 ^ 56 + x) e (omega arith))),
       )
 
   fine-name : textFits used b at 3 ≡ true → Fine (leafWord b at 3)
@@ -63,11 +58,11 @@ module _ (used at : ℕ) (b : List ℕ) (B : (i : ℕ) → getD b i 0 < 256) whe
       let s : ℕ = four b (at + 1) in
       let n : ℕ = two b (at + 5) in
       let x : ℕ = s * 65536 + n in
-      let e : (3 * 2 ^ 56 + x) / 2 ^ 56 ≡ 3 = omega (arith, four-small (at + 1), two-small (at + 5)) in
+      let e : (3 * 2 ^ 56 + x) / 2 ^ 56 ≡ 3 = omega (arith, four-small b B (at + 1), two-small b B (at + 5)) in
       let l : s + n ≤ used = leb-true (s + n) used (both-true (leb (s + n) used) (isNameLength n) h .0) in
-      let p : (3 * 2 ^ 56 + x) / 65536 % 2 ^ 32 ≡ s = omega (arith, four-small (at + 1), two-small (at + 5)) in
-      let q : (3 * 2 ^ 56 + x) % 65536 ≡ n = omega (arith, two-small (at + 5)) in
-      (leaf-node 3 x (lit< tt) (omega (arith, four-small (at + 1), two-small (at + 5))), rw e (omega arith))
+      let p : (3 * 2 ^ 56 + x) / 65536 % 2 ^ 32 ≡ s = omega (arith, four-small b B (at + 1), two-small b B (at + 5)) in
+      let q : (3 * 2 ^ 56 + x) % 65536 ≡ n = omega (arith, two-small b B (at + 5)) in
+      (leaf-node 3 x (lit< tt) (omega (arith, four-small b B (at + 1), two-small b B (at + 5))), rw e (omega arith))
 
   fine-column : Fine (leafWord b at 4)
   unfolding leafWord LeafHeld

@@ -1,8 +1,8 @@
 // The form of a condition: one scan of its postfix bytes into the table of nodes that evaluation walks.
 ghost use mathlib.Core.Path.{_≡_};
 ghost use mathlib.Core.List.{List};
-ghost use Prim.Native.Nat.{ℕ, _+_, _*_, _<_, _≤_, _^_, max};
-ghost use lib.ListN.{length, getD, set};
+ghost use Prim.Native.Nat.{ℕ, _+_, _*_, _<_, _≤_, max};
+ghost use lib.ListN.{length, getD};
 ghost use Rattle.conditions.specs.Ast.{Tree};
 ghost use Rattle.forms.specs.Form.{onOne, onTwo, nodeAt, parsed};
 ghost use Rattle.forms.specs.Held.{Held, Marks, StepIs, StepFine, OperatorFine, ScanIs};

@@ -2,12 +2,11 @@
 use Prim.Native.Nat.{ℕ, _+_, _/_}
 use mathlib.Core.List.{List, [], _∷_, _++_}
 use lib.ListN.{length}
-use lib.Dec.{ltb}
-use Rattle.refusals.specs.Stop.{Stop, stopIf, firstOf}
+use Rattle.refusals.specs.Stop.{Stop, firstOf}
 use Rattle.slices.specs.Bytes.{both}
 use Rattle.writing.specs.Writing.{WrittenIs}
 use Rattle.writing.specs.declared.Written.{Written}
-use Rattle.checks.specs.Check.{roomStop}
+use Rattle.checks.specs.Check.{roomStop, shortStop}
 use Rattle.tables.specs.Table.{columnCount, isTable, areRows, countStop, wordsStop}
 use Rattle.marking.specs.RowList.{wordsOf}
 use Rattle.marking.specs.Marks.{part}
@@ -50,7 +49,7 @@ insertStop columns stored old new size used output =
     firstOf
     (lentStop columns old new size used
     ∷ keysStop columns stored old (rowsIn columns old) new (rowsIn columns new)
-    ∷ stopIf (ltb output (length (inserted columns stored old new))) 9 (length (inserted columns stored old new))
+    ∷ shortStop output (length (inserted columns stored old new))
     ∷ [])
 
 -- what `insert` answers and writes: all rows

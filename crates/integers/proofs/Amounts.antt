@@ -8,14 +8,13 @@ use lib.IntN.{ℤ, pos, negsuc, natAbs}
 use lib.Signed.{mag, ltZ, shrZ, mag-shr, nonNeg}
 use borrow.Author.Tests.{le-ltb, lt-leb, le-leb, ltb-true, ltb-false}
 use mir.Syntax.{w32, w64}
-use mir.Val.{Fits, SFits, toZ, ofZ}
+use mir.Val.{Fits, SFits, ofZ}
 use mir.Facts.{ofZ-toZ}
 use Rattle.refusals.proofs.Bools.{true-false}
-use Rattle.values.specs.Value.{int}
-use Rattle.integers.specs.Outcome.{Reply, gave, Outcome, value, placed}
+use Rattle.integers.specs.Outcome.{gave, placed}
 use Rattle.integers.specs.Integer.{intOf, isAmount, shiftedLeft, shiftedRight, fitted}
 use Rattle.integers.proofs.Placing.{placed-bits, fitted-in}
-use Rattle.integers.proofs.Ranges.{held, held-is, small-in, mag-int}
+use Rattle.integers.proofs.Ranges.{held, held-is, small-in}
 
 negative : (y : ℤ) → ltZ y (pos 0) ≡ true → isAmount y ≡ false
 negative (pos n) e = true-false (sym e ∙ le-ltb n 0 (omega arith))

@@ -1,7 +1,6 @@
 -- Two answers that tell the same are the same, so every contract of this crate has one result. Assumes nothing.
 use mathlib.Core.Path.{_≡_, refl, sym, ap, _∙_}
 use mathlib.Core.Bool.{cond}
-use Prim.Native.Nat.{ℕ}
 use lib.Dec.{eqb}
 use Rattle.integers.specs.Outcome.{Reply, gave, refused, replyOf}
 use Rattle.integers.specs.declared.Answer.{Answer}

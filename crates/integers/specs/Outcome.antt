@@ -1,8 +1,6 @@
 -- What an operator comes to, and what an answer of the code tells. Assumes nothing: these are definitions.
 use Prim.Native.Nat.{ℕ, _+_}
-use mathlib.Core.List.{List}
 use lib.ListN.{length}
-use lib.IntN.{ℤ}
 use Rattle.cells.specs.Cell.{wordOf}
 use Rattle.cells.specs.declared.ValueRef.{ValueRef}
 use Rattle.cells.specs.declared.ValueRef.the-variants.{Null, Int, Str, Binary}

@@ -17,7 +17,7 @@ use Rattle.marking.specs.Marks.{part}
 use Rattle.marking.proofs.Lists.{kept-few, kept-below, words-length}
 use Rattle.marking.proofs.Marking.{row-inside}
 use Rattle.projecting.specs.Project.{projected, hasMark, markedWords}
-use Rattle.keeping.specs.Table.{shortStop}
+use Rattle.checks.specs.Check.{shortStop}
 use Rattle.keeping.specs.Kept.{KeptAsks}
 
 -- a projected row has at most 32 words

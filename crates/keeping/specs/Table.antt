@@ -1,10 +1,9 @@
--- What every call on one table looks at first, and 9 (document 01, "Row calls"). Assumes nothing: these are definitions.
+-- What every call on one table looks at first (document 01, "Row calls"). Assumes nothing: these are definitions.
 use Prim.Native.Nat.{ℕ, _/_}
 use mathlib.Core.Bool.{Bool}
 use mathlib.Core.List.{List, [], _∷_}
 use lib.ListN.{length}
-use lib.Dec.{ltb}
-use Rattle.refusals.specs.Stop.{Stop, stopIf, firstOf}
+use Rattle.refusals.specs.Stop.{Stop, firstOf}
 use Rattle.slices.specs.Bytes.{both}
 use Rattle.checks.specs.Check.{roomStop}
 use Rattle.tables.specs.Table.{columnCount, isTable, areRows, countStop, wordsStop}
@@ -22,7 +21,3 @@ tableStop counts b columns rows size used =
     ∷ countStop (both (both (isTable columns) (areRows (columnCount columns) rows)) counts)
     ∷ wordsStop used (columns ∷ [] ∷ []) (rows ∷ [] ∷ [])
     ∷ [])
-
--- 9 with the words that the whole result takes
-abbrev pub shortStop : ℕ → ℕ → Stop
-shortStop output needed = stopIf (ltb output needed) 9 needed

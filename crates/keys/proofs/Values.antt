@@ -13,7 +13,7 @@ use Rattle.slices.specs.Bytes.{byTests, byBytes}
 use Rattle.slices.specs.declared.Ordering.{Ordering}
 use Rattle.slices.specs.declared.Ordering.the-variants.{Less, Equal, Greater}
 use Rattle.values.specs.Value.{Value, null, int, str, binary}
-use Rattle.values.specs.Order.{byInts, order}
+use Rattle.values.specs.Order.{order}
 use Rattle.values.proofs.Ordered.{order-equal, tests-equal}
 use Rattle.keys.specs.Key.{thenBy}
 use Rattle.keys.proofs.Chains.{flip, Chain, flip-then, less-any, any-greater, chain-then, chain-of, Strict, strict-turned, strict-less}

@@ -1,12 +1,11 @@
 -- Rows compared by their key columns, and the earlier of two rows (document 01, "Of two rows of one column table, compared by key"; the keys of
 -- BTreeMap and HashSet in query.rs). Assumes nothing: these are definitions.
 use Prim.Native.Nat.{ℕ}
-use mathlib.Core.Path.{_≡_}
-use mathlib.Core.Bool.{Bool, true, false, cond}
+use mathlib.Core.Bool.{Bool, cond}
 use mathlib.Core.List.{List, [], _∷_}
 use lib.ListN.{length, take}
 use lib.Dec.{eqb}
-use Rattle.refusals.specs.Stop.{Stop, never, stop, orElse, firstOf}
+use Rattle.refusals.specs.Stop.{Stop, never, stop, firstOf}
 use Rattle.slices.specs.Bytes.{both}
 use Rattle.slices.specs.declared.Ordering.{Ordering}
 use Rattle.slices.specs.declared.Ordering.the-variants.{Less, Equal, Greater}

@@ -1,7 +1,7 @@
 -- Every row of a table tested by a condition, before anything is written. Assumes nothing: these are definitions.
-use Prim.Native.Nat.{ℕ, zero, suc, _*_, _/_, _≤_, _<_}
+use Prim.Native.Nat.{ℕ, zero, suc, _*_, _≤_, _<_}
 use mathlib.Core.Path.{_≡_}
-use mathlib.Core.Bool.{Bool, true, false, cond}
+use mathlib.Core.Bool.{true, cond}
 use mathlib.Core.List.{List, [], _∷_}
 use lib.ListN.{length, take, getD}
 use Rattle.refusals.specs.Stop.{never, stopOf}
@@ -9,7 +9,7 @@ use Rattle.slices.specs.Splice.{piece, splice}
 use Rattle.checks.specs.Check.{roomStop, cellsStop}
 use Rattle.operators.specs.declared.Rules.{Rules}
 use Rattle.evaluation.specs.Evaluation.{isRowLength}
-use Rattle.testing.specs.Test.{Tested, test, roomFor, Ready}
+use Rattle.testing.specs.Test.{test, roomFor, Ready}
 use Rattle.marking.specs.RowList.{Test, isTrue, trueRows, refusedFrom}
 use Rattle.marking.specs.declared.Marked.{Marked}
 use Rattle.marking.specs.declared.Marked.the-variants.{Rows, Refused}

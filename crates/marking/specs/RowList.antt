@@ -1,7 +1,7 @@
 -- Rows told by their numbers, over any test of a row: which are kept, their words, and the first refusal (document 01, "Row calls"; the loops of
 -- Select::exec, Delete::exec and Update::exec). Assumes nothing: these are definitions.
 use Prim.Native.Nat.{ℕ, zero, suc}
-use mathlib.Core.Bool.{Bool, true, false, not, cond}
+use mathlib.Core.Bool.{Bool, false, not, cond}
 use mathlib.Core.List.{List, [], _∷_, _++_}
 use Rattle.refusals.specs.Stop.{Stop, never, stop, orElse}
 use Rattle.testing.specs.Test.{Tested, is, refuses}

@@ -2,14 +2,13 @@
 -- A lent slice keeps its length. Assumes nothing.
 use mathlib.Core.Path.{_≡_, refl, sym, ap, ap₂, _∙_}
 use mathlib.Core.Bool.{Bool}
-use mathlib.Core.List.{List, [], _++_, append-nil}
-use Prim.Native.Nat.{ℕ, _+_, _*_, _≤_}
+use mathlib.Core.List.{List, [], append-nil}
+use Prim.Native.Nat.{ℕ, _≤_}
 use native.Mathlib.Omega.{arith}
 use lib.ListN.{length, take}
 use lib.Seq.{length-take-le}
 use Rattle.refusals.specs.Stop.{Stop, never, stop}
 use Rattle.refusals.proofs.Unique.{one-refusal}
-use Rattle.tables.specs.Table.{columnCount}
 use Rattle.naming.specs.OneSide.{Head, joined, Named, named, tooLong}
 use Rattle.naming.specs.Side.{NameAsks, NameIs, SideAsks, SideIs}
 use Rattle.naming.specs.declared.Name.{Name}

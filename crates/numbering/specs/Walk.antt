@@ -3,7 +3,7 @@ use Prim.Native.Nat.{ℕ, _+_, _*_, _≤_, _<_}
 use mathlib.Core.Path.{_≡_}
 use mathlib.Core.List.{List, _++_}
 use lib.ListN.{length, take}
-use Rattle.refusals.specs.Stop.{Stop, never, stopOf}
+use Rattle.refusals.specs.Stop.{never, stopOf}
 use Rattle.columns.specs.Column.{columnsStop}
 use Rattle.conditions.specs.Ast.{Tree, mapTree, size, height}
 use Rattle.forms.specs.Held.{Denotes}

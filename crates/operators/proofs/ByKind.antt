@@ -1,16 +1,15 @@
 -- The operators by the kinds of their operands, and what leaves the text as it was. Assumes nothing.
 use mathlib.Core.Path.{_≡_, refl, sym, _∙_}
-use mathlib.Core.Bool.{Bool, true, false, not, cond}
+use mathlib.Core.Bool.{Bool, true, false, cond}
 use mathlib.Core.List.{List}
 use Prim.Native.Nat.{ℕ, _≤_, _<_}
 use native.Mathlib.Omega.{arith}
-use lib.Dec.{leb, eqb}
+use lib.Dec.{eqb}
 use lib.IntN.{ℤ, pos}
-use borrow.Author.Tests.{lt-ltb, le-ltb, eq-eqb, ne-eqb, eqb-true, eqb-false}
+use borrow.Author.Tests.{lt-ltb, le-ltb, ne-eqb, eqb-true, eqb-false}
 use Rattle.refusals.proofs.Bools.{true-false}
 use Rattle.slices.specs.Bytes.{both}
-use Rattle.slices.specs.declared.Ordering.{Ordering}
-use Rattle.cells.specs.Cell.{kindOf, refOf}
+use Rattle.cells.specs.Cell.{kindOf}
 use Rattle.cells.proofs.Words.{ref-int, ref-str, ref-binary, ref-null}
 use Rattle.values.specs.Value.{Value, null, int, str, binary, toValue, valueOf, fromBool}
 use Rattle.integers.specs.Outcome.{Outcome, value, gave, placed, replyOf}
@@ -18,7 +17,7 @@ use Rattle.integers.specs.Integer.{fitted, isInt32, isZero, isAmount, onInts, n
 use Rattle.integers.specs.declared.Answer.{Answer}
 use Rattle.integers.specs.declared.Answer.the-variants.{Gave}
 use Rattle.integers.proofs.Placing.{placed-null}
-use Rattle.operators.specs.Operator.{holds, compared, joined, onKinds, isIntZero, binaryOf, onInt, unaryOf, textAfter, Applied}
+use Rattle.operators.specs.Operator.{compared, joined, onKinds, isIntZero, binaryOf, onInt, unaryOf, textAfter, Applied}
 use Rattle.operators.specs.declared.Rules.{Rules}
 
 -- ---- one of four operators

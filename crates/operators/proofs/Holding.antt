@@ -1,14 +1,14 @@
 -- What an operator gives, a cell can hold: an Int has 32 bits, a text is no longer than the limit. Assumes nothing.
-use mathlib.Core.Path.{_≡_, refl, sym, ap, _∙_}
-use mathlib.Core.Bool.{Bool, true, false, not, cond}
+use mathlib.Core.Path.{_≡_, refl}
+use mathlib.Core.Bool.{Bool, true, false, cond}
 use mathlib.Core.List.{List, _++_}
-use Prim.Native.Nat.{ℕ, zero, suc, _+_, _*_, _%_, _^_, _-_, _≤_, _<_}
+use Prim.Native.Nat.{ℕ, _+_, _*_, _%_, _^_, _-_, _≤_, _<_}
 use native.Mathlib.Omega.{arith}
 use lib.ListN.{length, length-append}
 use lib.Dec.{ltb, leb, eqb}
 use lib.Bits.{and-lt, or-lt, xor-lt}
 use lib.IntN.{ℤ, pos, negsuc, natAbs}
-use lib.Signed.{mag, leZ, shrZ, mag-shr}
+use lib.Signed.{mag, mag-shr}
 use borrow.Author.Tests.{leb-true, eqb-true, eqb-false}
 use borrow.Author.Needs.{sfits-of}
 use mir.Syntax.{w32}
@@ -17,7 +17,7 @@ use mir.Facts.{sfits-toZ, fits-ofZ}
 use Rattle.slices.specs.Bytes.{both}
 use Rattle.cells.specs.Cell.{kindOf}
 use Rattle.cells.proofs.Words.{ref-int, ref-str, ref-binary, ref-null}
-use Rattle.values.specs.Value.{Value, null, int, str, binary, toValue, valueOf, toBool, fromBool}
+use Rattle.values.specs.Value.{Value, null, int, str, binary, toValue, valueOf, fromBool}
 use Rattle.integers.specs.Outcome.{Outcome, value}
 use Rattle.integers.specs.Integer.{isInt32, fitted, isZero, isAmount, onInts}
 use Rattle.operators.specs.Operator.{compared, joined, onKinds, isIntZero, binaryOf, onInt, unaryOf}

@@ -10,7 +10,8 @@ use borrow.Author.Tests.{ne-eqb}
 use Rattle.cells.specs.Cell.{kindOf, bodyOf, startOf, lengthOf}
 use Rattle.nodes.specs.Kind.{bodyOf as long}
 use Rattle.postfix.specs.Postfix.{little, bodyBytes}
-use Rattle.postfix.proofs.Numbers.{Small, small-nil, small-append, little-small}
+use Rattle.nodes.proofs.Numbers.{Small}
+use Rattle.postfix.proofs.Numbers.{small-nil, small-append, little-small}
 use Rattle.postfix.proofs.Writing.{length-little}
 
 -- a text's or a name's start and length take 6 bytes

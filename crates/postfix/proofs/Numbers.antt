@@ -7,11 +7,8 @@ use native.Mathlib.Nat.{add-zero, add-assoc}
 use lib.ListN.{length, getD, take, drop}
 use lib.Seq.{getD-drop}
 use Rattle.nodes.specs.Kind.{two, four}
+use Rattle.nodes.proofs.Numbers.{Small}
 use Rattle.postfix.specs.Postfix.{little}
-
--- a list of bytes
-abbrev pub Small : List ℕ → Type 0
-Small l = (i : ℕ) → getD l i 0 < 256
 
 -- an empty list is one
 pub small-nil : Small []
@@ -63,14 +60,6 @@ two-little x r h = omega arith
 pub four-little : (x : ℕ) (r : List ℕ) → x < 2 ^ 32 → four (little 4 x ++ r) 0 ≡ x
 unfolding little
 four-little x r h = omega arith
-
--- what is read is below its bound: two bytes
-pub two-small : (l : List ℕ) → Small l → (i : ℕ) → two l i < 65536
-two-small l B i = omega (arith, B i, B (i + 1))
-
--- four bytes
-pub four-small : (l : List ℕ) → Small l → (i : ℕ) → four l i < 2 ^ 32
-four-small l B i = omega (arith, two-small l B i, two-small l B (i + 2))
 
 -- one byte more, below the others
 little-step : (n x v : ℕ) → x < 256 → little (suc n) (x + 256 * v) ≡ x ∷ little n v

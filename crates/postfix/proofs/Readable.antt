@@ -18,7 +18,8 @@ use Rattle.nodes.specs.declared.Allowed.{Allowed}
 use Rattle.postfix.specs.Postfix.{little, bodyBytes, leafBytes}
 use Rattle.postfix.proofs.Leaves.{bytes-int, bytes-text, bytes-name, bytes-column}
 use Rattle.postfix.proofs.Lengths.{body-small}
-use Rattle.postfix.proofs.Numbers.{Small, small-drop, one-drop, two-drop, four-drop, one-little, two-little, four-little, two-small, four-small, little-one, little-two, little-four}
+use Rattle.nodes.proofs.Numbers.{Small, two-small, four-small}
+use Rattle.postfix.proofs.Numbers.{small-drop, one-drop, two-drop, four-drop, one-little, two-little, four-little, little-one, little-two, little-four}
 
 -- a leaf's word: a kind of leaf that the form has, a body that the kind's bytes can hold, a text that ends at or before the mark, and a name's length
 pub record LeafReadable (form : Allowed) (used w : ℕ) : Type 0 where

@@ -17,7 +17,8 @@ use Rattle.nodes.proofs.Bodies.{known-leaf, known-below}
 use Rattle.forms.specs.Form.{tree, refusal, go, onOne, onTwo, nodeAt, finish, follow, parse, parsed}
 use Rattle.postfix.specs.Postfix.{leafBytes, bodyBytes, bytesOf, width}
 use Rattle.postfix.proofs.Leaves.{length-body, small-body}
-use Rattle.postfix.proofs.Numbers.{Small, small-nil, small-cons, small-append, one-drop}
+use Rattle.nodes.proofs.Numbers.{Small}
+use Rattle.postfix.proofs.Numbers.{small-nil, small-cons, small-append, one-drop}
 use Rattle.postfix.proofs.Parsing.{parse-more, parse-end, parse-all, Went, Became, put, one, two, node-went}
 use Rattle.postfix.proofs.Lengths.{body-small}
 use Rattle.postfix.proofs.Readable.{word-by, text-by, leaf-read}

@@ -5,16 +5,15 @@ use Prim.Native.Nat.{ℕ, _-_, _≤_, _<_}
 use native.Mathlib.Omega.{arith}
 use lib.ListN.{length, take}
 use lib.Seq.{length-take-le}
-use lib.Dec.{ltb}
 use borrow.Author.Tests.{lt-ltb, le-ltb}
-use Rattle.refusals.specs.Stop.{Stop, never, stop, stopIf, orElse, stopOf}
+use Rattle.refusals.specs.Stop.{Stop, never, stop, orElse, stopOf}
 use Rattle.refusals.specs.declared.Refusal.{Refusal}
 use Rattle.refusals.specs.declared.Refusal.the-variants.{OutputShort}
 use Rattle.refusals.proofs.First.{never-both}
 use Rattle.writing.specs.Writing.{count}
 use Rattle.writing.specs.declared.Written.the-variants.{Count, Refused}
 use Rattle.writing.proofs.Answers.{refused-is}
-use Rattle.checks.specs.Check.{roomStop}
+use Rattle.checks.specs.Check.{roomStop, shortStop}
 use Rattle.checks.proofs.Turns.{room-there}
 use Rattle.conditions.specs.Ast.{Tree, mapTree}
 use Rattle.conditions.specs.Table.{leafOf}
@@ -79,7 +78,7 @@ last-check never never never never = refl
 module _ (b text out : List ℕ) (used : ℕ) where
   -- 9, of the whole text
   abbrev nine : Stop
-  nine = stopIf (ltb (length out) (length (printedAll (take used text) (parsed Named used b)))) 9 (length (printedAll (take used text) (parsed Named used b)))
+  nine = shortStop (length out) (length (printedAll (take used text) (parsed Named used b)))
 
   -- it comes after what is looked at before the output
   then-nine : printStop b (take used text) (length text) used (length out) ≡ orElse (beforeStop b (take used text) (length text) used) nine
@@ -149,7 +148,7 @@ module _ {b text : List ℕ} {used : ℕ} {nodes : List ℕ} {n : ℕ} (R : Read
 
   module _ {none end : List ℕ} {needed : ℕ} (c : Walked none needed end) (out : List ℕ) where
     -- only 9 is left
-    stop-is : printStop b (take used text) (length text) used (length out) ≡ stopIf (ltb (length out) needed) 9 needed
+    stop-is : printStop b (take used text) (length text) used (length out) ≡ shortStop (length out) needed
     stop-is = then-nine b text out used ∙ ap (λ s. orElse s (nine b text out used)) (R .before) ∙ rw (all-is, counted none end needed c)
 
     -- the output is short

@@ -9,7 +9,7 @@ use Rattle.slices.specs.Splice.{piece}
 use Rattle.slices.specs.Bytes.{both}
 use Rattle.writing.specs.Writing.{WrittenIs}
 use Rattle.writing.specs.declared.Written.{Written}
-use Rattle.checks.specs.Check.{roomStop}
+use Rattle.checks.specs.Check.{roomStop, shortStop}
 use Rattle.conditions.specs.Ast.{mapTree}
 use Rattle.conditions.specs.Table.{leafOf}
 use Rattle.nodes.specs.Kind.{bodyOf, two, four}
@@ -40,7 +40,7 @@ printStop b stored size used output =
     (roomStop 0 size used
     ∷ formStop (parsed Named used b)
     ∷ textsStop stored b 64 0
-    ∷ stopIf (ltb output (length (printedAll stored (parsed Named used b)))) 9 (length (printedAll stored (parsed Named used b)))
+    ∷ shortStop output (length (printedAll stored (parsed Named used b)))
     ∷ [])
 
 -- what `print` answers and writes

@@ -2,22 +2,21 @@
 use mathlib.Core.Path.{_≡_, refl, sym, ap, subst, _∙_}
 use mathlib.Core.Bool.{Bool, true}
 use mathlib.Core.List.{List}
-use Prim.Native.Nat.{ℕ, _+_, _-_, _*_, _^_, _/_, _%_, _≤_, _<_}
+use Prim.Native.Nat.{ℕ, _-_, _^_, _/_, _%_, _≤_, _<_}
 use native.Mathlib.Omega.{arith}
 use lib.ListN.{length, take, getD}
 use lib.Seq.{length-take-le}
 use borrow.Author.Tests.{lt-ltb, le-ltb}
-use Rattle.cells.specs.Cell.{WellFormed, kindOf, startOf}
+use Rattle.cells.specs.Cell.{WellFormed}
 use Rattle.cells.proofs.Stops.{inside-more}
-use Rattle.values.specs.Value.{Value, valueOf, toBool, fromBool}
-use Rattle.integers.specs.Outcome.{Outcome, value, gave, placed}
+use Rattle.values.specs.Value.{valueOf, toBool, fromBool}
+use Rattle.integers.specs.Outcome.{value, gave, placed}
 use Rattle.integers.specs.declared.Answer.the-variants.{Gave}
 use Rattle.operators.specs.Operator.{unaryOf}
 use Rattle.operators.specs.declared.Rules.{Rules}
 use Rattle.operators.proofs.Holding.{holds-unary, holds-truth}
 use Rattle.conditions.specs.Ast.{leaf, unary, binary, eval, decides}
-use Rattle.conditions.specs.Table.{nodeOf, leafOf, treeOf, LeafSound, SoundAt, Sound, rowOf, RowSound, LiesAt, LeafIs, Asks, Answers, Lies}
-use Rattle.conditions.specs.declared.Node.{Node}
+use Rattle.conditions.specs.Table.{nodeOf, leafOf, treeOf, LeafSound, SoundAt, Sound, rowOf, RowSound, LeafIs, Asks, Answers, Lies}
 use Rattle.conditions.specs.declared.Node.the-variants.{Leaf, One, Two}
 use Rattle.conditions.proofs.Giving.{value-more}
 use Rattle.conditions.proofs.Walk.{sound-step, tree-step}

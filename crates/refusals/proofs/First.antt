@@ -1,7 +1,6 @@
 -- A check's answer, handed on before later checks are looked at, or passed by. Assumes nothing.
 use mathlib.Core.Path.{_≡_, refl, sym, ap, _∙_}
 use mathlib.Core.Bool.{Bool, true, false}
-use mathlib.Core.List.{List, [], _∷_}
 use Prim.Native.Nat.{ℕ}
 use native.Mathlib.Omega.{arith}
 use Rattle.refusals.specs.Stop.{Stop, never, stop, stopIf, stopOf, checkedOf, orElse}

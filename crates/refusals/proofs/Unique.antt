@@ -1,10 +1,10 @@
 -- Two refusals that tell the same are the same, and so are two answers of a check. Assumes nothing.
 use mathlib.Core.Path.{_≡_, refl, sym, ap, _∙_}
-use mathlib.Core.Bool.{Bool, true, false, cond}
+use mathlib.Core.Bool.{cond}
 use Prim.Native.Nat.{ℕ}
 use native.Mathlib.Omega.{arith}
 use lib.Dec.{eqb}
-use Rattle.refusals.specs.Told.{Told, told}
+use Rattle.refusals.specs.Told.{told}
 use Rattle.refusals.specs.Stop.{Stop, never, stop, stopOf, checkedOf}
 use Rattle.refusals.specs.declared.Refusal.{Refusal}
 use Rattle.refusals.specs.declared.Refusal.the-variants.{

@@ -6,8 +6,6 @@ use native.Mathlib.Omega.{arith}
 use lib.ListN.{length, take}
 use lib.Seq.{drop-at, take-all}
 use borrow.Author.Tests.{ne-eqb}
-use mir.Syntax.{w32}
-use mir.Val.{SFits}
 use mir.Facts.{fits-ofZ}
 use Rattle.cells.specs.Cell.{WellFormed, Inside, kindOf, wordOf}
 use Rattle.cells.proofs.Words.{Sized, ref-back}

@@ -5,29 +5,27 @@ use mathlib.Core.List.{List, [], _∷_, _++_, append-assoc, append-nil}
 use Prim.Native.Nat.{ℕ, suc, _+_, _*_, _^_, _/_, _≤_, _<_}
 use native.Mathlib.Omega.{arith}
 use lib.ListN.{length, take, set, length-append}
-use lib.Seq.{take-take, take-at, take-suc-set, length-take-le}
+use lib.Seq.{take-take, take-at, take-suc-set}
 use lib.Dec.{ltb}
 use borrow.Author.Tests.{ne-eqb, le-ltb, lt-ltb, ltb-true, ltb-false}
-use Rattle.refusals.specs.Told.{told}
-use Rattle.refusals.specs.declared.Refusal.{Refusal}
-use Rattle.slices.specs.Splice.{splice, Wrote}
+use Rattle.slices.specs.Splice.{Wrote}
 use Rattle.slices.specs.Bytes.{both}
 use Rattle.slices.proofs.Splice.{wrote-front, front-splice, take-splice}
 use Rattle.slices.proofs.Both.{both-true}
-use Rattle.cells.specs.Cell.{WellFormed, kindOf, startOf, lengthOf, wordOf}
+use Rattle.cells.specs.Cell.{WellFormed, kindOf, wordOf}
 use Rattle.values.specs.Value.{Value, null, int, str, valueOf}
 use Rattle.integers.specs.Outcome.{Outcome, value, Reply, gave, replyOf, cellAt, rise, placed}
 use Rattle.integers.specs.declared.Answer.{Answer}
 use Rattle.operators.specs.Operator.{unaryOf, binaryOf, Applied, textAfter}
 use Rattle.operators.specs.declared.Rules.{Rules}
-use Rattle.conditions.specs.Ast.{Tree, leaf, unary, binary, size}
+use Rattle.conditions.specs.Ast.{Tree, leaf, unary, binary}
 use Rattle.forms.specs.Held.{LeafHeld}
 use Rattle.postfix.specs.Postfix.{leafBytes, bytesOf, width}
 use Rattle.replacing.specs.Fold.{Folding, folded, isLiteral, leafWordOf, appended, replaced, foldOne, foldTwo}
 use Rattle.replacing.specs.Walk.{AllHeld, root, Rooted, Literal, Stored, Stands, StandTwo, Says, Becomes, Gives}
 use Rattle.replacing.specs.declared.Part.{Part}
-use Rattle.replacing.specs.declared.Part.the-variants.{Folded, Refused}
-use Rattle.replacing.proofs.Literals.{literal-one, literal-two, literal-grows, literal-kind, literal-well, held-literal}
+use Rattle.replacing.specs.declared.Part.the-variants.{Folded}
+use Rattle.replacing.proofs.Literals.{literal-one, literal-two, literal-kind, literal-well, held-literal}
 
 -- ---- words of trees
 

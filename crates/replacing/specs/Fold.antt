@@ -1,8 +1,8 @@
 -- Folding as a function on trees and on the stored text that it appends to (document 01, "Folding replaces .."; Expr's operators of expr.rs).
 -- Assumes nothing: these are definitions.
 use Prim.Native.Nat.{ℕ, _+_}
-use mathlib.Core.Bool.{Bool, true, false, cond}
-use mathlib.Core.List.{List, [], _∷_, _++_}
+use mathlib.Core.Bool.{Bool, false, cond}
+use mathlib.Core.List.{List, [], _++_}
 use lib.ListN.{length}
 use lib.Dec.{ltb}
 use Rattle.slices.specs.Bytes.{both}

@@ -1,6 +1,6 @@
 // Reading recorded cases (docs/CASES.md). A part that is missing reads as 0 or empty, so that a damaged case differs and does no harm.
 ghost use mathlib.Core.Path.{_≡_};
-ghost use Prim.Native.Nat.{_+_, _*_, _≤_, _<_, _^_};
+ghost use Prim.Native.Nat.{_+_, _*_, _≤_, _<_};
 ghost use lib.ListN.{length, getD};
 ghost use Rattle.replay.specs.Number.{Four, Read, eightAt};
 use libc::STDIN_FILENO;

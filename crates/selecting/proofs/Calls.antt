@@ -26,7 +26,8 @@ use Rattle.marking.specs.declared.Marked.the-variants.{Rows}
 use Rattle.marking.proofs.Lists.{kept-same, mark-at, true-and-other}
 use Rattle.projecting.specs.Project.{listStop, hasMark, markedWords}
 use Rattle.projecting.proofs.Listing.{empty-list}
-use Rattle.keeping.specs.Table.{rowCount, tableStop, shortStop}
+use Rattle.keeping.specs.Table.{rowCount, tableStop}
+use Rattle.checks.specs.Check.{shortStop}
 use Rattle.selecting.specs.Select.{selected, SelectIs, remaining, DeleteIs}
 use Rattle.keeping.specs.Kept.{KeptAsks}
 use Rattle.keeping.proofs.Passing.{Passed}

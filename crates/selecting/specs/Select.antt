@@ -13,7 +13,8 @@ use Rattle.testing.specs.Test.{conditionStop}
 use Rattle.marking.specs.RowList.{Test, trueRows, otherRows, refusedFrom, wordsOf}
 use Rattle.marking.specs.Marks.{part, testOf}
 use Rattle.projecting.specs.Project.{projected, listStop}
-use Rattle.keeping.specs.Table.{rowCount, tableStop, shortStop}
+use Rattle.keeping.specs.Table.{rowCount, tableStop}
+use Rattle.checks.specs.Check.{shortStop}
 
 -- the words that select lists: the true rows in order, then projected
 abbrev pub selected : Test → List ℕ → List ℕ → List ℕ → List ℕ

@@ -20,7 +20,7 @@ use Rattle.marking.specs.Marks.{part}
 use Rattle.marking.proofs.Lists.{kept-below, words-length, kept-all}
 use Rattle.marking.proofs.Marking.{row-inside, rowRead, row-read}
 use Rattle.projecting.proofs.Turns.{Writing, row-room, writing-turn}
-use Rattle.keeping.specs.Table.{shortStop}
+use Rattle.checks.specs.Check.{shortStop}
 use Rattle.setting.specs.Sets.{applied}
 use Rattle.setting.specs.Asked.{Within, rowAfter, allWords, AllAsked}
 use Rattle.setting.proofs.Setting.{applied-length}

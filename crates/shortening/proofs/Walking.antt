@@ -9,16 +9,15 @@ use Rattle.refusals.specs.declared.Refusal.{Refusal}
 use Rattle.slices.specs.Splice.{Wrote}
 use Rattle.slices.proofs.Splice.{wrote-front}
 use Rattle.cells.specs.Cell.{WellFormed, kindOf}
-use Rattle.operators.specs.Operator.{Room}
 use Rattle.operators.specs.declared.Rules.{Rules}
-use Rattle.conditions.specs.Ast.{Tree, leaf, unary, binary, size, height, joins}
+use Rattle.conditions.specs.Ast.{Tree, leaf, binary, size, height, joins}
 use Rattle.conditions.specs.Table.{nodeOf}
 use Rattle.conditions.specs.declared.Node.the-variants.{Leaf, One, Two}
 use Rattle.conditions.proofs.Giving.{kept-trans}
 use Rattle.forms.proofs.Denoting.{OneAt, TwoAt, leaf-at, one-at, two-at}
 use Rattle.postfix.specs.Postfix.{leafBytes, bytesOf, width}
 use Rattle.postfix.proofs.Reading.{width-size, leaf-width}
-use Rattle.replacing.specs.Fold.{Folding, folded, andFold, fold, foldOne, foldTwo}
+use Rattle.replacing.specs.Fold.{Folding, andFold, fold, foldOne, foldTwo}
 use Rattle.replacing.specs.Walk.{AllHeld, root, Rooted, Stored, Stands, StandTwo, Says, TwoAsks, FoldAsks, Gives}
 use Rattle.replacing.specs.declared.Part.{Part}
 use Rattle.replacing.specs.declared.Part.the-variants.{Folded, Refused}

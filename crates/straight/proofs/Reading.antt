@@ -1,32 +1,31 @@
 -- Leaves that were read off the bytes, and what their cells mean. Assumes nothing.
 use mathlib.Core.Path.{_≡_, refl, sym, ap, _∙_}
-use mathlib.Core.Bool.{Bool, true, false, not, cond}
+use mathlib.Core.Bool.{true, false}
 use mathlib.Core.List.{List}
 use Prim.Native.Nat.{ℕ, zero, suc, _+_, _-_, _*_, _^_, _/_, _%_, _≤_, _<_}
 use native.Mathlib.Omega.{arith}
 use native.Mathlib.Numerals.{add-one}
 use lib.ListN.{length, getD, take, drop}
 use lib.Seq.{length-take-le}
-use lib.Dec.{eqb, leb}
+use lib.Dec.{leb}
 use borrow.Author.Tests.{le-ltb, eq-eqb, ne-eqb, lt-leb, leb-false}
 use Rattle.refusals.specs.Stop.{never}
+use Rattle.refusals.proofs.Bools.{true-false}
 use Rattle.slices.specs.Bytes.{both}
 use Rattle.cells.specs.Cell.{WellFormed, bodiesOf}
 use Rattle.cells.proofs.Stops.{stop-never, never-stops, cell-by, text-by}
 use Rattle.checks.specs.Check.{roomStop, cellsStop}
 use Rattle.checks.proofs.Turns.{cells-turn, cells-sound}
-use Rattle.conditions.specs.Table.{leafCell, LeafSound, RowSound, LeafIs}
+use Rattle.conditions.specs.Table.{LeafSound, RowSound, LeafIs}
 use Rattle.conditions.proofs.Leaves.{leaf-column, leaf-literal}
 use Rattle.nodes.specs.Kind.{isKind, known, bodyOf, leafWord, textFits, two, four}
 use Rattle.nodes.specs.declared.Allowed.the-variants.{Bound}
 use Rattle.nodes.proofs.Bodies.{known-leaf}
+use Rattle.nodes.proofs.Numbers.{two-small, four-small}
 use Rattle.forms.specs.Held.{LeafHeld}
 use Rattle.forms.specs.Number.{isMissing}
 use Rattle.forms.proofs.Words.{fine}
 use Rattle.straight.specs.Straight.{LeafRead}
-
-pub no : {X : Type 0} → true ≡ false → X
-no e = absurd (let z : _≡_ {A = ℕ} 0 1 = cc in omega arith)
 
 -- an Int by its upper half
 pub int-fine : (used w : ℕ) → w / 4294967296 ≡ 16777216 → WellFormed used w
@@ -55,19 +54,13 @@ unfolding LeafHeld LeafSound
 literal-sound used width w n m h = rw (ne-eqb (w / 2 ^ 56) 4 n, ne-eqb (w / 2 ^ 56) 3 m) (rw (ne-eqb (w / 2 ^ 56) 4 n, ne-eqb (w / 2 ^ 56) 3 m) at h)
 
 module _ (used at : ℕ) (b row : List ℕ) (B : (i : ℕ) → getD b i 0 < 256) where
-  two-small : (i : ℕ) → two b i < 65536
-  two-small i = omega (arith, B i, B (i + 1))
-
-  four-small : (i : ℕ) → four b i < 2 ^ 32
-  four-small i = omega (arith, two-small i, two-small (i + 2))
-
   -- the kind of a leaf's word is the node's
   word-kind : (k : ℕ) → k < 3 → leafWord b at k / 2 ^ 56 ≡ k
   unfolding leafWord
   word-kind zero l = omega arith
-  word-kind (suc zero) l = let q : (1 * 2 ^ 56 + four b (at + 1)) / 2 ^ 56 ≡ 1 = omega (arith, four-small (at + 1)) in q
+  word-kind (suc zero) l = let q : (1 * 2 ^ 56 + four b (at + 1)) / 2 ^ 56 ≡ 1 = omega (arith, four-small b B (at + 1)) in q
   word-kind (suc (suc zero)) l =
-      let q : (2 * 2 ^ 56 + (four b (at + 1) * 65536 + two b (at + 5))) / 2 ^ 56 ≡ 2 = omega (arith, four-small (at + 1), two-small (at + 5)) in q
+      let q : (2 * 2 ^ 56 + (four b (at + 1) * 65536 + two b (at + 5))) / 2 ^ 56 ≡ 2 = omega (arith, four-small b B (at + 1), two-small b B (at + 5)) in q
   word-kind (suc (suc (suc k))) l = absurd (let z : ⊥ = omega arith in z)
 
   column-kind : leafWord b at 4 / 2 ^ 56 ≡ 4
@@ -135,7 +128,7 @@ module _ (used at : ℕ) (b row : List ℕ) (B : (i : ℕ) → getD b i 0 < 256)
     by-kind zero r l e R = literal-is 0 r (omega arith) R
     by-kind (suc zero) r l e R = literal-is 1 r (omega arith) R
     by-kind (suc (suc zero)) r l e R = literal-is 2 r (omega arith) R
-    by-kind (suc (suc (suc zero))) r l e R = no (sym (unfold known isKind in (R .kind)))
+    by-kind (suc (suc (suc zero))) r l e R = true-false (sym (unfold known isKind in (R .kind)))
     by-kind (suc (suc (suc (suc zero)))) r l e R = column-is r e R
     by-kind (suc (suc (suc (suc (suc k))))) r l e R = absurd (let z : ⊥ = omega arith in z)
 

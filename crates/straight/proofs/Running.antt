@@ -1,22 +1,20 @@
 -- The pass over the bytes: its invariant, its two turns and its end. Assumes nothing.
 use mathlib.Core.Path.{_≡_, refl, sym, ap, subst, _∙_}
-use mathlib.Core.Bool.{Bool, true, false, cond}
+use mathlib.Core.Bool.{Bool, true, false}
 use mathlib.Core.List.{List, [], _∷_}
-use Prim.Native.Nat.{ℕ, zero, suc, _+_, _-_, _≤_, _<_, max}
+use Prim.Native.Nat.{ℕ, suc, _+_, _-_, _≤_, _<_, max}
 use native.Mathlib.Omega.{arith}
 use lib.ListN.{length, getD, set, length-set}
 use lib.Dec.{ltb, leb}
 use borrow.Author.Tests.{lt-ltb, le-ltb, le-leb, ltb-false, ne-eqb}
-use Rattle.refusals.specs.Stop.{never}
-use Rattle.slices.specs.Bytes.{both}
 use Rattle.cells.specs.Cell.{WellFormed, kindOf}
 use Rattle.values.specs.Value.{valueOf}
 use Rattle.operators.specs.declared.Rules.{Rules}
-use Rattle.conditions.specs.Ast.{Tree, leaf, unary, binary, height, size}
+use Rattle.conditions.specs.Ast.{Tree, leaf, binary, height, size}
 use Rattle.conditions.specs.Table.{RowSound}
 use Rattle.nodes.specs.Kind.{isKind, known, bodyOf, leafWord}
 use Rattle.nodes.specs.declared.Allowed.the-variants.{Bound}
-use Rattle.forms.specs.Form.{Parsed, tree, go, onTwo, nodeAt, finish, follow, parse, parsed}
+use Rattle.forms.specs.Form.{tree, go, onTwo, nodeAt, finish, follow, parse, parsed}
 use Rattle.forms.specs.Number.{isMissing, numbersStop}
 use Rattle.forms.proofs.Steps.{to-leaf, to-two}
 use Rattle.forms.proofs.Scanning.{parse-more, parse-end}

@@ -15,7 +15,6 @@ use Rattle.values.specs.Order.{order}
 use Rattle.values.proofs.Ordered.{order-self}
 use Rattle.values.proofs.ByWord.{left-no-text}
 use Rattle.integers.specs.Outcome.{Outcome, value}
-use Rattle.operators.specs.declared.Rules.{Rules}
 use Rattle.conditions.specs.Ast.{Tree, leaf, mapTree, eval}
 use Rattle.conditions.specs.Table.{leafOf, rowOf}
 use Rattle.forms.specs.Form.{Parsed}

@@ -2,7 +2,7 @@
 // It gives `NOTHING` wherever anything is refused or isn't simple; then nothing is said.
 ghost use mathlib.Core.Path.{_≡_};
 ghost use mathlib.Core.Bool.{true};
-ghost use Prim.Native.Nat.{_+_, _<_, _≤_};
+ghost use Prim.Native.Nat.{_+_, _<_};
 ghost use lib.ListN.{length, getD};
 ghost use Rattle.refusals.specs.Stop.{never};
 ghost use Rattle.cells.specs.Cell.{WellFormed};

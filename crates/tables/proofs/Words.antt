@@ -13,7 +13,7 @@ use Rattle.refusals.proofs.First.{never-both, nothing-behind, in-a-row}
 use Rattle.slices.proofs.Both.{both-true}
 use Rattle.columns.specs.Column.{columnsStop}
 use Rattle.checks.specs.Check.{cellsStop}
-use Rattle.tables.specs.Table.{columnCount, isColumnCount, isTable, areRows, countStop, columnWordsStop, cellWordsStop, total, wordsStop}
+use Rattle.tables.specs.Table.{columnCount, isTable, areRows, countStop, columnWordsStop, cellWordsStop, wordsStop}
 
 -- two column tables and two tables of rows, one check after another
 pub words-are : (used : ℕ) (left right first second : List ℕ) →

@@ -2,28 +2,26 @@
 use mathlib.Core.Path.{_≡_, refl, sym, ap, subst, _∙_}
 use mathlib.Core.Bool.{Bool, true, false}
 use mathlib.Core.List.{List, [], _∷_}
-use Prim.Native.Nat.{ℕ, zero, suc, _+_, _-_, _*_, _≤_, _<_}
+use Prim.Native.Nat.{ℕ, _-_, _≤_, _<_}
 use native.Mathlib.Omega.{arith}
-use lib.ListN.{length, take, getD}
+use lib.ListN.{length, take}
 use lib.Seq.{length-take-le}
 use lib.Dec.{eqb}
 use mir.Val.{boolByte}
-use Rattle.refusals.specs.Stop.{never, orElse}
 use Rattle.refusals.specs.declared.Refusal.{Refusal}
 use Rattle.refusals.proofs.First.{never-both}
 use Rattle.cells.specs.Cell.{WellFormed}
-use Rattle.values.specs.Value.{Value, valueOf, toBool}
-use Rattle.integers.specs.Outcome.{Outcome, value}
+use Rattle.values.specs.Value.{valueOf, toBool}
 use Rattle.integers.specs.declared.Answer.{Answer}
 use Rattle.integers.specs.declared.Answer.the-variants.{Gave, Overflow, ShiftAmount, TooLong}
 use Rattle.operators.specs.declared.Rules.{Rules}
-use Rattle.conditions.specs.Ast.{Tree, mapTree, eval, joins}
-use Rattle.conditions.specs.Table.{leafOf, rowOf, treeOf, Asks, Answers}
+use Rattle.conditions.specs.Ast.{eval}
+use Rattle.conditions.specs.Table.{rowOf, treeOf, Asks, Answers}
 use Rattle.nodes.specs.declared.Allowed.the-variants.{Bound}
 use Rattle.forms.specs.Form.{parsed, formStop}
 use Rattle.forms.specs.declared.Scanned.the-variants.{Table}
 use Rattle.forms.specs.Number.{numbersStop}
-use Rattle.evaluation.specs.Evaluation.{stops, PreparedIs}
+use Rattle.evaluation.specs.Evaluation.{PreparedIs}
 use Rattle.evaluation.proofs.Stopping.{at-none}
 use Rattle.evaluation.proofs.Whole.{asks, denotes-tree}
 use Rattle.quick.specs.Quick.{Stands, Found}

@@ -1,5 +1,5 @@
 -- A condition as a test of rows: select, delete, update and the joins ask it of each row or pair. Assumes nothing: these are definitions.
-use Prim.Native.Nat.{ℕ, _+_, _≤_, _<_}
+use Prim.Native.Nat.{ℕ, _<_}
 use mathlib.Core.Path.{_≡_}
 use mathlib.Core.Bool.{Bool, true, false}
 use mathlib.Core.List.{List, [], _∷_}
@@ -7,7 +7,7 @@ use lib.ListN.{length, take, getD}
 use lib.Dec.{eqb}
 use Rattle.refusals.specs.Told.{told}
 use Rattle.refusals.specs.Stop.{Stop, never, stopOf, orElse}
-use Rattle.values.specs.Value.{Value, toBool}
+use Rattle.values.specs.Value.{toBool}
 use Rattle.checks.specs.Check.{roomStop, cellsStop}
 use Rattle.integers.specs.Outcome.{Outcome, value}
 use Rattle.operators.specs.declared.Rules.{Rules}

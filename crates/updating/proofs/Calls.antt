@@ -22,7 +22,7 @@ use Rattle.marking.specs.Marks.{part}
 use Rattle.marking.specs.declared.Marked.{Marked}
 use Rattle.marking.specs.declared.Marked.the-variants.{Rows}
 use Rattle.marking.proofs.Lists.{mark-at}
-use Rattle.keeping.specs.Table.{shortStop}
+use Rattle.checks.specs.Check.{shortStop}
 use Rattle.selecting.proofs.Calls.{Question, widthOf, countOf, testFor, TableStop, PassedBy, MarkedBy, written-as, refused-rows, says, passed-rows}
 use Rattle.setting.specs.Sets.{areSets, setsStop, applied}
 use Rattle.updating.specs.Update.{updated, UpdateIs}

@@ -11,7 +11,8 @@ use Rattle.tables.specs.Table.{columnCount}
 use Rattle.testing.specs.Test.{conditionStop}
 use Rattle.marking.specs.RowList.{Test, isTrue, keptFrom, refusedFrom, wordsOf}
 use Rattle.marking.specs.Marks.{part, testOf}
-use Rattle.keeping.specs.Table.{rowCount, tableStop, shortStop}
+use Rattle.keeping.specs.Table.{rowCount, tableStop}
+use Rattle.checks.specs.Check.{shortStop}
 use Rattle.setting.specs.Sets.{areSets, setsStop, applied}
 
 -- every row in order, the true ones with the sets applied: the row is tested as it was

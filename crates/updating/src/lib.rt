@@ -4,7 +4,7 @@ ghost use Prim.Native.Nat.{_+_, _*_, _≤_};
 ghost use lib.ListN.{length, take};
 ghost use Rattle.slices.specs.Splice.{Wrote};
 ghost use Rattle.writing.specs.Writing.{WrittenIs};
-ghost use Rattle.keeping.specs.Table.{shortStop};
+ghost use Rattle.checks.specs.Check.{shortStop};
 ghost use Rattle.updating.specs.Update.{UpdateIs};
 ghost use Rattle.setting.specs.Asked.{allWords, AllAsked};
 use marking::Marked;

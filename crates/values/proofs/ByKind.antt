@@ -5,7 +5,7 @@ use Prim.Native.Nat.{ℕ}
 use lib.IntN.{ℤ}
 use denote.Enum.Declared.{tagOf}
 use types.Run.{OneOf, miss}
-use Rattle.slices.specs.declared.Ordering.the-variants.{Less, Equal, Greater}
+use Rattle.slices.specs.declared.Ordering.the-variants.{Less, Greater}
 use Rattle.cells.specs.declared.ValueRef.{ValueRef}
 use Rattle.cells.specs.declared.ValueRef.the-variants.{Null, Int, Str, Binary}
 use Rattle.cells.proofs.ValueRef.{the-type}

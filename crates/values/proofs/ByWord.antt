@@ -1,6 +1,6 @@
 -- Values by their words: two different words of cells mean different values, unless both are texts. Assumes nothing.
 use mathlib.Core.Path.{_≡_, refl, sym, ap, ap₂, _∙_}
-use mathlib.Core.List.{List, [], _∷_}
+use mathlib.Core.List.{List}
 use mathlib.Core.Bool.{Bool, true, false}
 use Prim.Native.Nat.{ℕ, _%_, _^_}
 use native.Mathlib.Omega.{arith}
@@ -9,7 +9,7 @@ use borrow.Author.Tests.{eqb-true, eqb-false}
 use mir.Syntax.{w32}
 use mir.Val.{toZ, ofZ}
 use Rattle.slices.specs.Splice.{piece}
-use Rattle.slices.specs.Bytes.{byBytes, isEqual, sameBytes}
+use Rattle.slices.specs.Bytes.{isEqual, sameBytes}
 use Rattle.slices.proofs.Bytes.{same-order}
 use Rattle.slices.specs.declared.Ordering.{Ordering}
 use Rattle.slices.specs.declared.Ordering.the-variants.{Less, Equal, Greater}
@@ -17,7 +17,7 @@ use Rattle.cells.specs.Cell.{kindOf, startOf, lengthOf, isCell, refOf, wordOf}
 use Rattle.cells.specs.declared.ValueRef.{ValueRef}
 use Rattle.cells.specs.declared.ValueRef.the-variants.{Null, Int, Str, Binary}
 use Rattle.cells.proofs.Words.{ref-int, ref-str, ref-binary, ref-null, word-back, held-int}
-use Rattle.values.specs.Value.{Value, int, str, toValue, valueOf}
+use Rattle.values.specs.Value.{int, str, toValue, valueOf}
 use Rattle.values.specs.Order.{byInts, order}
 use Rattle.values.proofs.Ordered.{order-equal}
 

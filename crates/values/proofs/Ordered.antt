@@ -1,5 +1,5 @@
 -- Laws of the order of values: equal means same kind and content. Assumes nothing.
-use mathlib.Core.Path.{_≡_, refl, ap, ap₂, _∙_}
+use mathlib.Core.Path.{_≡_, refl, ap}
 use mathlib.Core.Bool.{Bool, true, false}
 use Prim.Native.Nat.{ℕ}
 use native.Mathlib.Omega.{arith}
@@ -11,9 +11,8 @@ use mir.Syntax.{w32}
 use mir.Val.{SFits, ofZ, toZ}
 use mir.Facts.{toZ-ofZ}
 use Rattle.refusals.proofs.Bools.{true-false}
-use Rattle.slices.specs.Bytes.{byTests, byBytes}
+use Rattle.slices.specs.Bytes.{byTests}
 use Rattle.slices.proofs.Bytes.{bytes-self, bytes-equal}
-use Rattle.slices.specs.declared.Ordering.{Ordering}
 use Rattle.slices.specs.declared.Ordering.the-variants.{Less, Equal, Greater}
 use Rattle.values.specs.Value.{Value, null, int, str, binary}
 use Rattle.values.specs.Order.{byInts, order}

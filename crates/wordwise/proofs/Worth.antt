@@ -2,7 +2,7 @@
 use mathlib.Core.Path.{_≡_, refl, sym, ap, _∙_}
 use mathlib.Core.Bool.{Bool, true, false, cond}
 use mathlib.Core.List.{List}
-use Prim.Native.Nat.{ℕ, _+_, _*_, _^_, _/_, _<_}
+use Prim.Native.Nat.{ℕ, _^_, _<_}
 use native.Mathlib.Omega.{arith}
 use lib.ListN.{length}
 use mir.Syntax.{w32}
@@ -14,7 +14,7 @@ use Rattle.cells.specs.declared.ValueRef.the-variants.{Null, Int, Str, Binary}
 use Rattle.cells.proofs.Words.{Sized, ref-back}
 use Rattle.cells.proofs.Stops.{well-word}
 use Rattle.values.specs.Value.{Value, null, int, str, binary, toValue, valueOf, toBool, fromBool}
-use Rattle.integers.specs.Outcome.{Outcome, value, gave, placed}
+use Rattle.integers.specs.Outcome.{Outcome, value, placed}
 use Rattle.operators.specs.declared.Rules.{Rules}
 use Rattle.operators.proofs.Holding.{Holds, holds-truth, value-int32}
 use Rattle.conditions.specs.Ast.{decides, twoSided}

@@ -1,12 +1,12 @@
 -- What a refusal and a result written at the start make of the output. Assumes nothing.
-use mathlib.Core.Path.{_≡_, refl, sym, ap, _∙_}
+use mathlib.Core.Path.{_≡_, sym, ap, _∙_}
 use mathlib.Core.List.{List}
 use Prim.Native.Nat.{ℕ}
 use native.Mathlib.Omega.{arith}
 use native.Mathlib.Nat.{zero-add}
 use lib.ListN.{length}
 use Rattle.slices.specs.Splice.{Wrote}
-use Rattle.refusals.specs.Stop.{Stop, never, stop, stopOf}
+use Rattle.refusals.specs.Stop.{Stop, never, stopOf}
 use Rattle.refusals.specs.declared.Refusal.{Refusal}
 use Rattle.writing.specs.Writing.{count, WrittenIs}
 use Rattle.writing.specs.declared.Written.the-variants.{Count, Refused}

@@ -1,9 +1,8 @@
 -- Two answers of a call that writes are the same, and so are the two outputs. Assumes nothing.
-use mathlib.Core.Path.{_≡_, refl, sym, ap, _∙_}
+use mathlib.Core.Path.{_≡_, sym, ap, _∙_}
 use mathlib.Core.List.{List}
 use Prim.Native.Nat.{ℕ}
 use native.Mathlib.Omega.{arith}
-use Rattle.refusals.specs.Told.{told}
 use Rattle.refusals.specs.Stop.{Stop, never, stop, stopOf}
 use Rattle.refusals.proofs.Unique.{one-refusal}
 use Rattle.writing.specs.Writing.{Report, count, reportOf, WrittenIs}

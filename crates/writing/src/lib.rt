@@ -1,8 +1,7 @@
 // What calls that write have in common: their answer, and a result written at the start of the output.
-ghost use mathlib.Core.Path.{_≡_};
 ghost use Prim.Native.Nat.{_≤_};
 ghost use lib.ListN.{length};
-ghost use Rattle.refusals.specs.Stop.{never, stopOf};
+ghost use Rattle.refusals.specs.Stop.{never};
 ghost use Rattle.writing.specs.Writing.{WrittenIs};
 use refusals::Refusal;
 

@@ -1,5 +1,5 @@
 -- `checks::check_cells` meets its contract. The loop's invariant: the cells are refused as those that are left. Assumes nothing.
-use mathlib.Core.Path.{_≡_, refl, sym, ap, _∙_}
+use mathlib.Core.Path.{_≡_, sym, ap, _∙_}
 use Prim.Native.Nat.{suc, _+_, _≤_, _-_}
 use native.Mathlib.Nat.{add-zero}
 use lib.ListN.{length, drop}

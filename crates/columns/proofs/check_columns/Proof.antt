@@ -1,5 +1,5 @@
 -- `columns::check_columns` meets its contract. The loop's invariant: the columns are refused as those that are left. Assumes nothing.
-use mathlib.Core.Path.{_≡_, refl, sym, ap, _∙_}
+use mathlib.Core.Path.{_≡_, sym, _∙_}
 use Prim.Native.Nat.{_+_, _≤_, _-_}
 use native.Mathlib.Nat.{add-zero, add-assoc}
 use lib.ListN.{length, drop}

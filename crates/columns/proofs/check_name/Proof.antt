@@ -1,6 +1,5 @@
 -- `columns::check_name` meets its contract. Assumes nothing.
-use mathlib.Core.Path.{_≡_, sym, _∙_}
-use mathlib.Core.Bool.{true, false}
+use mathlib.Core.Path.{sym, _∙_}
 use borrow.Author.Tests.{not-true, not-false}
 use Rattle.columns.proofs.Stops.{name-no-cell, name-no-text, name-beyond, name-empty, name-long, name-never}
 use borrow.Author.Needs.{needs}

@@ -1,10 +1,10 @@
 -- `conditions::apply` meets its contract. Assumes nothing.
-use mathlib.Core.Path.{_≡_, sym, ap, subst, _∙_}
+use mathlib.Core.Path.{_≡_, sym, ap, subst}
 use lib.ListN.{length, take}
 use lib.Seq.{length-take-le}
 use borrow.Author.Tests.{lt-ltb, le-ltb}
 use Rattle.cells.specs.Cell.{WellFormed}
-use Rattle.values.specs.Value.{valueOf, toBool, fromBool}
+use Rattle.values.specs.Value.{fromBool}
 use Rattle.integers.specs.Outcome.{value}
 use Rattle.operators.proofs.ByKind.{applied-flag}
 use Rattle.conditions.specs.Ast.{twoSided}

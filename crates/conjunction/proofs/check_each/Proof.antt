@@ -1,8 +1,7 @@
 -- `conjunction::check_each` meets its contract. Assumes nothing.
 use denote.Ref.{now}
-use mathlib.Core.Path.{_≡_, sym, ap, _∙_}
+use mathlib.Core.Path.{sym, _∙_}
 use native.Mathlib.Omega.{arith}
-use Rattle.refusals.specs.Stop.{orElse, never}
 use Rattle.refusals.proofs.First.{refused-first, sound-first, told-sound, nothing-behind}
 use Rattle.conjunction.proofs.Stopping.{old-short}
 use borrow.Author.Needs.{needs}

@@ -1,6 +1,5 @@
 -- `conjunction::check_form` meets its contract. Assumes nothing.
 use denote.Ref.{now}
-use mathlib.Core.Path.{sym, _∙_}
 use native.Mathlib.Omega.{arith}
 use Rattle.conjunction.proofs.Stopping.{scan-sound, scan-place, scan-denied}
 use borrow.Author.Needs.{needs}

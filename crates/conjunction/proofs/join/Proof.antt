@@ -1,7 +1,6 @@
 -- `conjunction::join` meets its contract. Assumes nothing.
 use native.Mathlib.Omega.{arith}
-use lib.ListN.{length, length-set}
-use mathlib.Core.Path.{sym, _∙_}
+use lib.ListN.{length-set}
 use Rattle.conjunction.proofs.Joining.{join-new, join-both}
 use borrow.Author.Needs.{needs}
 use Rattle.conjunction.proofs.join.Statement.{statement}

@@ -1,6 +1,6 @@
 -- `evaluation::check_numbers` meets its contract. The loop's invariant: what is left to look at decides. Assumes nothing.
 use mathlib.Core.Path.{_≡_, refl, sym, _∙_}
-use Prim.Native.Nat.{ℕ, _+_, _-_, _<_, _≤_}
+use Prim.Native.Nat.{ℕ, _+_, _-_, _≤_}
 use lib.ListN.{length}
 use Rattle.forms.specs.Number.{numbersStop}
 use Rattle.forms.proofs.Numbers.{numbers-end, numbers-full, numbers-found, numbers-turn, body-short}

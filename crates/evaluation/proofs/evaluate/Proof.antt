@@ -1,6 +1,4 @@
 -- `evaluation::evaluate` meets its contract. Assumes nothing.
-use denote.Ref.{now}
-use Rattle.operators.specs.declared.Rules.{Rules}
 use Rattle.evaluation.proofs.Passing.{passed}
 use borrow.Author.Needs.{needs}
 use Rattle.evaluation.proofs.evaluate.Statement.{statement}

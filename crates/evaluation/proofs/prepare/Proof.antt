@@ -1,8 +1,5 @@
 -- `evaluation::prepare` meets its contract: the checks in document 01's order. Assumes nothing.
 use denote.Ref.{now}
-use mathlib.Core.Path.{_≡_, refl, sym, _∙_}
-use Prim.Native.Nat.{ℕ, _≤_}
-use lib.ListN.{length}
 use Rattle.refusals.proofs.First.{told-refused, told-sound}
 use Rattle.evaluation.proofs.Stopping.{row-short, row-long, row-right, at-room, at-count, at-cells, prepared-denied, prepared-stopped, prepared}
 use borrow.Author.Needs.{needs}

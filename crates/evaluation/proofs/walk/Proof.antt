@@ -1,13 +1,13 @@
 -- `evaluation::walk` meets its contract. Assumes nothing.
 use denote.Ref.{now}
-use mathlib.Core.Path.{_≡_, refl, sym, subst, _∙_}
+use mathlib.Core.Path.{_≡_, subst}
 use mathlib.Core.List.{List}
 use Prim.Native.Nat.{ℕ, _-_, _≤_}
 use lib.ListN.{length, getD}
 use Rattle.integers.specs.declared.Answer.{Answer}
 use Rattle.operators.specs.declared.Rules.{Rules}
 use Rattle.conditions.specs.Table.{nodeOf, Asks, Answers, Lies}
-use Rattle.forms.specs.declared.Scanned.the-variants.{Table, Denied}
+use Rattle.forms.specs.declared.Scanned.the-variants.{Table}
 use Rattle.evaluation.specs.Evaluation.{EvaluatedIs, PreparedIs}
 use Rattle.evaluation.proofs.Whole.{denied, some, asks, evaluated, answerOf}
 use native.Mathlib.Omega.{arith}

@@ -1,13 +1,10 @@
 -- `folding::fold` meets its contract. Assumes nothing.
 use denote.Ref.{now}
-use mathlib.Core.Path.{_≡_, refl, sym, subst, _∙_}
-use mathlib.Core.List.{List}
-use Prim.Native.Nat.{ℕ}
+use mathlib.Core.Path.{refl, sym, subst}
 use native.Mathlib.Omega.{arith}
 use lib.ListN.{length, replicate}
 use lib.Seq.{length-take-le}
 use Rattle.operators.specs.declared.Rules.{Rules}
-use Rattle.forms.specs.declared.Scanned.the-variants.{Table, Denied}
 use Rattle.folding.specs.Call.{PreparedIs}
 use Rattle.folding.proofs.Calling.{denied, some, asks, folding-refused, end-small, copy-room, folding-wrote}
 use borrow.Author.Needs.{needs}

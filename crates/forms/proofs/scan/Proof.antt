@@ -1,5 +1,5 @@
 -- `forms::scan` meets its contract. The loop's invariant: the tables hold the definition's stack, and the definition goes on from here. Assumes nothing.
-use mathlib.Core.Path.{_≡_, refl, sym, _∙_}
+use mathlib.Core.Path.{refl, sym, _∙_}
 use Prim.Native.Nat.{_-_, _<_}
 use native.Mathlib.Nat.{pos-of-ne-zero}
 use lib.ListN.{length}

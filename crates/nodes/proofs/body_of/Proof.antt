@@ -1,5 +1,5 @@
 -- `nodes::body_of` meets its contract. Assumes nothing.
-use borrow.Author.Tests.{eq-eqb, ne-eqb}
+use borrow.Author.Tests.{ne-eqb}
 use Rattle.nodes.specs.Kind.{bodyOf}
 use Rattle.nodes.proofs.body_of.Statement.{statement}
 use Rattle.nodes.proofs.body_of.Tie as tie

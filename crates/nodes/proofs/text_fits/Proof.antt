@@ -1,6 +1,5 @@
 -- `nodes::text_fits` meets its contract. Assumes nothing.
-use mathlib.Core.Path.{_≡_, ap, ap₂, sym, _∙_}
-use mathlib.Core.Bool.{true, false}
+use mathlib.Core.Path.{_≡_, ap, ap₂}
 use Prim.Native.Nat.{_+_, _≤_, _<_}
 use lib.Dec.{leb}
 use denote.Ref.{now}

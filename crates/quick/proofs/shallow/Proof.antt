@@ -3,7 +3,7 @@ use mathlib.Core.Path.{refl}
 use Prim.Native.Nat.{_-_, _%_, _^_, _<_}
 use lib.ListN.{length, getD}
 use native.Mathlib.Omega.{arith}
-use borrow.Author.Needs.{needs, scaled-fits}
+use borrow.Author.Needs.{scaled-fits}
 use Rattle.conditions.proofs.Leaves.{leaf-node}
 use Rattle.quick.proofs.Walking.{node-leaf, node-two, in-table, leaf-sound, leaf-found, left-below, two-below, left-stands, right-stands, two-found}
 use Rattle.quick.proofs.shallow.Statement.{statement}

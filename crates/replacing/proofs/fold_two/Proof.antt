@@ -1,6 +1,6 @@
 -- `replacing::fold_two` meets its contract. Assumes nothing.
 use native.Mathlib.Omega.{arith}
-use mathlib.Core.Path.{_≡_, sym, _∙_}
+use mathlib.Core.Path.{sym, _∙_}
 use Rattle.replacing.proofs.Standing.{two-literal, two-kept, test-true}
 use borrow.Author.Needs.{needs}
 use Rattle.replacing.proofs.fold_two.Statement.{statement}

@@ -1,8 +1,7 @@
 -- `replay::lend` is safe and keeps the length. Assumes nothing.
-use mathlib.Core.Path.{_≡_, refl, _∙_}
+use mathlib.Core.Path.{_≡_, refl}
 use Prim.Native.Nat.{_≤_, _-_}
 use lib.ListN.{length, length-set}
-use Rattle.slices.proofs.Splice.{wrote-length}
 use borrow.Author.Needs.{needs}
 use Rattle.replay.proofs.lend.Statement.{statement}
 use Rattle.replay.proofs.lend.Tie as tie

@@ -1,7 +1,6 @@
 -- `replay_operators::two_sided` is safe. Assumes nothing.
 use mathlib.Core.Path.{sym, ap, _∙_}
 use Rattle.refusals.specs.Stop.{checkedOf}
-use Rattle.operators.specs.Operator.{Room}
 use native.Mathlib.Omega.{arith}
 use borrow.Author.Needs.{needs}
 use Rattle.replay_operators.proofs.two_sided.Statement.{statement}

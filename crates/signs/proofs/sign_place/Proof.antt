@@ -1,5 +1,4 @@
 -- `signs::sign_place` meets its contract. Assumes nothing.
-use mathlib.Core.Path.{refl}
 use native.Mathlib.Omega.{arith}
 use borrow.Author.Tests.{ne-eqb}
 use Rattle.signs.specs.Sign.{sign, signs}

@@ -3,7 +3,7 @@
 use Prim.Native.Nat.{ℕ, _+_, _-_, _≤_, _<_}
 use mathlib.Core.Path.{_≡_, sym, ap, _∙_}
 use mathlib.Core.List.{List}
-use lib.ListN.{length, take, getD, set}
+use lib.ListN.{length, getD, set}
 use lib.Seq.{getD-take, getD-drop}
 use Rattle.slices.specs.Splice.{piece, Wrote}
 use Rattle.slices.proofs.Splice.{Copying, copying-start, copying-turn, copying-end, copying-kept}

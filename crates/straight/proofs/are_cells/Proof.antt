@@ -3,8 +3,9 @@ use mathlib.Core.Path.{_≡_, refl, sym, _∙_}
 use Prim.Native.Nat.{_-_, _≤_}
 use lib.ListN.{length, drop}
 use borrow.Author.Tests.{not-false}
+use Rattle.refusals.proofs.Bools.{true-false}
 use Rattle.checks.specs.Check.{cellsStop}
-use Rattle.straight.proofs.Reading.{no, cell-passed}
+use Rattle.straight.proofs.Reading.{cell-passed}
 use Rattle.checks.proofs.Turns.{cells-end}
 use borrow.Author.Needs.{needs}
 use Rattle.straight.proofs.are_cells.Statement.{statement}
@@ -29,7 +30,7 @@ is-fine-requires : tie.Need-is-fine-requires Inv-loop μ-loop
 is-fine-requires c κs = search needs
 
 returns : tie.Need-returns Inv-loop μ-loop
-returns c = λ e. no (sym e)
+returns c = λ e. true-false (sym e)
 
 add-i : tie.Need-add-i Inv-loop μ-loop
 add-i c = search needs

@@ -1,5 +1,5 @@
 -- `straight::column` meets its contract. Assumes nothing.
-use mathlib.Core.Path.{_≡_, refl}
+use mathlib.Core.Path.{refl}
 use denote.Ref.{now}
 use Rattle.straight.proofs.Reading.{read-column}
 use native.Mathlib.Omega.{arith}

@@ -1,5 +1,5 @@
 -- `straight::leaf` meets its contract. Assumes nothing.
-use mathlib.Core.Path.{_≡_, refl, sym, _∙_}
+use mathlib.Core.Path.{refl, sym, _∙_}
 use denote.Ref.{now}
 use Rattle.nodes.specs.Kind.{bodyOf, textFits}
 use Rattle.straight.proofs.Reading.{read-literal}

@@ -1,7 +1,7 @@
 -- `tables::are_rows` meets its contract. Assumes nothing.
 use denote.Ref.{now}
 use lib.ListN.{length}
-use Prim.Native.Nat.{_/_, _%_}
+use Prim.Native.Nat.{_%_}
 use borrow.Author.Tests.{eq-eqb, ne-eqb}
 use Rattle.tables.specs.Table.{areRows}
 use borrow.Author.Needs.{needs}

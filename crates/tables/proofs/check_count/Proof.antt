@@ -1,5 +1,4 @@
 -- `tables::check_count` meets its contract. Assumes nothing.
-use denote.Ref.{now}
 use mathlib.Core.Path.{sym, ap, _∙_}
 use borrow.Author.Tests.{not-true, not-false}
 use Rattle.tables.specs.Table.{countStop}

@@ -1,7 +1,6 @@
 -- `tables::check_words` meets its contract. Assumes nothing.
 use denote.Ref.{now}
-use mathlib.Core.Path.{_≡_, sym, _∙_}
-use native.Mathlib.Omega.{arith}
+use mathlib.Core.Path.{sym, _∙_}
 use Rattle.refusals.proofs.First.{refused-first, sound-first}
 use Rattle.tables.proofs.Words.{words-are}
 use borrow.Author.Needs.{needs}

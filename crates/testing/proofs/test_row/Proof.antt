@@ -1,6 +1,4 @@
 -- `testing::test_row` meets its contract. Assumes nothing.
-use denote.Ref.{now}
-use native.Mathlib.Omega.{arith}
 use Rattle.testing.proofs.Testing.{no-condition, test-asks, test-value, test-overflow, test-shift, test-long}
 use borrow.Author.Needs.{needs}
 use Rattle.testing.proofs.test_row.Statement.{statement}

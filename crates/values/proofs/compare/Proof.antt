@@ -1,7 +1,6 @@
 -- `values::compare` meets its contract. Assumes nothing.
 use mathlib.Core.Path.{ap₂, _∙_}
 use native.Mathlib.Nat.{add-sub-cancel-left}
-use Prim.Native.Nat.{_+_, _≤_}
 use lib.ListN.{length}
 use denote.Ref.{now}
 use mir.Syntax.{w32}

@@ -1,5 +1,5 @@
 -- `wordwise::on_cells` meets its contract. Assumes nothing.
-use mathlib.Core.Path.{_≡_, refl, sym, ap, _∙_}
+use mathlib.Core.Path.{refl, sym, ap, _∙_}
 use denote.Ref.{now}
 use Rattle.values.specs.Value.{fromBool}
 use Rattle.integers.specs.Outcome.{value}

@@ -1,5 +1,4 @@
 -- `wordwise::on_ints` meets its contract. Assumes nothing.
-use mathlib.Core.Path.{_≡_}
 use lib.IntN.{_+ℤ_, _-ℤ_, _*ℤ_}
 use Rattle.integers.specs.Integer.{onInts}
 use Rattle.integers.proofs.Ranges.{sum-fits, difference-fits, product-fits}

@@ -1,5 +1,5 @@
 -- `wordwise::one` meets its contract. Assumes nothing.
-use mathlib.Core.Path.{refl, sym, ap, _∙_}
+use mathlib.Core.Path.{sym, ap, _∙_}
 use Rattle.integers.specs.Outcome.{replyOf, placed}
 use Rattle.wordwise.proofs.Textless.{less-unary, settled-anywhere, any-rules}
 use Rattle.wordwise.proofs.Settling.{unsettled}

@@ -1,5 +1,5 @@
 -- `wordwise::rare` meets its contract. Assumes nothing.
-use mathlib.Core.Path.{refl, sym, ap, _∙_}
+use mathlib.Core.Path.{sym, ap, _∙_}
 use Rattle.integers.specs.Outcome.{replyOf}
 use Rattle.wordwise.proofs.Textless.{less-ints, settled-anywhere}
 use Rattle.wordwise.proofs.Settling.{unsettled}
