@@ -4,10 +4,9 @@ use mathlib.Core.Bool.{Bool, true, false, cond}
 use mathlib.Core.List.{List, [], _∷_, _++_, append-nil}
 use Prim.Native.Nat.{ℕ, suc, _+_, _-_, _*_, _^_, _/_, _%_, _≤_, _<_, max}
 use native.Mathlib.Omega.{arith}
-use native.Mathlib.Nat.{add-zero}
 use lib.ListN.{length, drop, getD, length-append}
 use lib.Dec.{leb, eqb}
-use borrow.Author.Tests.{lt-ltb, lt-leb, ne-eqb, eqb-true, eqb-false}
+use borrow.Author.Tests.{lt-leb, ne-eqb, eqb-true, eqb-false}
 use Rattle.refusals.specs.Stop.{never, stopIf}
 use Rattle.refusals.proofs.First.{never-both}
 use Rattle.slices.specs.Bytes.{both}
@@ -19,9 +18,9 @@ use Rattle.nodes.specs.declared.Allowed.the-variants.{Named, Bound}
 use Rattle.nodes.proofs.Bodies.{known-kind}
 use Rattle.postfix.specs.Postfix.{leafBytes, bytesOf, width}
 use Rattle.postfix.proofs.Leaves.{length-body}
-use Rattle.postfix.proofs.Numbers.{one-drop}
 use Rattle.postfix.proofs.Readable.{LeafReadable, Readable, word-by, leaf-readable}
-use Rattle.postfix.proofs.Reading.{one-bytes, two-bytes, past, before, body-operator}
+use Rattle.postfix.proofs.Reading.{one-bytes, two-bytes, past}
+use Rattle.postfix.proofs.Passing.{here, node-passed, operator-passed}
 use Rattle.forms.specs.Number.{isMissing, numbersStop}
 use Rattle.forms.proofs.Numbers.{numbers-end}
 use Rattle.evaluation.proofs.Narrowing.{Narrow}
@@ -31,25 +30,10 @@ use Rattle.numbering.proofs.Leaves.{first-below, names-length}
 -- ---- refusal 4 over the bytes of a tree
 
 module _ (wide used : ℕ) (b : List ℕ) where
-  -- the node that stands next
-  here : (at k : ℕ) (post : List ℕ) → drop at b ≡ k ∷ post → getD b at 0 ≡ k
-  here at k post e = one-drop b at ∙ ap (λ l. getD l 0 0) e
-
-  -- a node that is no missing column is passed by
-  node-passed : (at k f : ℕ) (post : List ℕ) → drop at b ≡ k ∷ post → isMissing wide b at ≡ false → numbersStop wide b (suc f) at ≡ numbersStop wide b f (at + 1 + bodyOf k)
-  unfolding numbersStop
-  node-passed at k f post e m = rw (lt-ltb at (length b) (before b at k post e), m, here at k post e)
-
-  -- an operator is
-  operator-passed : (at op f : ℕ) (post : List ℕ) → 16 ≤ op → drop at b ≡ op ∷ post → numbersStop wide b (suc f) at ≡ numbersStop wide b f (at + 1)
-  operator-passed at op f post l e =
-      node-passed at op f post e (rw (here at op post e, ne-eqb op 4 (λ q. omega arith)))
-      ∙ ap (numbersStop wide b f) (ap (λ n. at + 1 + n) (body-operator op l) ∙ add-zero (at + 1))
-
   -- a leaf's number is a column's
   leaf-there : (at w : ℕ) (post : List ℕ) → LeafReadable Bound used w → Narrow wide (leaf w) → drop at b ≡ leafBytes w ++ post → isMissing wide b at ≡ false
   unfolding Narrow leafWord
-  leaf-there at w post R N e = rw (here at (kindOf w) _ e) (by (eqb (kindOf w) 4) refl N)
+  leaf-there at w post R N e = rw (here wide b at (kindOf w) _ e) (by (eqb (kindOf w) 4) refl N)
     where
       by : (x : Bool) → eqb (kindOf w) 4 ≡ x → cond x (w % 2 ^ 56 < wide) (cond (eqb (kindOf w) 3) ⊥ (Unit {0})) → both x (leb wide (getD b (at + 1) 0)) ≡ false
       by true q h =
@@ -65,14 +49,14 @@ module _ (wide used : ℕ) (b : List ℕ) where
   tree-passed (leaf w) R N at f post e =
       let q : 1 + f ≡ suc f = omega arith in
       let p : at + 1 + bodyOf (kindOf w) ≡ at + length (leafBytes w) = omega (arith, length-body w) in
-      ap (λ n. numbersStop wide b n at) q ∙ node-passed at (kindOf w) f _ e (leaf-there at w post R N e) ∙ ap (numbersStop wide b f) p
+      ap (λ n. numbersStop wide b n at) q ∙ node-passed wide b at (kindOf w) f _ e (leaf-there at w post R N e) ∙ ap (numbersStop wide b f) p
   tree-passed (unary op a) R N at f post e =
       let d : drop at b ≡ bytesOf a ++ (op ∷ post) = e ∙ one-bytes op a post in
       let q : size a + 1 + f ≡ size a + suc f = omega arith in
       let p : at + width a + 1 ≡ at + length (bytesOf a ++ (op ∷ [])) = omega (arith, length-append (bytesOf a) (op ∷ [])) in
       ap (λ n. numbersStop wide b n at) q
       ∙ tree-passed a (R .3) N at (suc f) (op ∷ post) d
-      ∙ operator-passed (at + width a) op f post (R .1) (past b at (bytesOf a) (op ∷ post) d)
+      ∙ operator-passed wide b (at + width a) op f post (R .1) (past b at (bytesOf a) (op ∷ post) d)
       ∙ ap (numbersStop wide b f) p
   tree-passed (binary op a c) R N at f post e =
       let d : drop at b ≡ bytesOf a ++ (bytesOf c ++ (op ∷ post)) = e ∙ two-bytes op a c post in
@@ -83,7 +67,7 @@ module _ (wide used : ℕ) (b : List ℕ) where
       ap (λ n. numbersStop wide b n at) q
       ∙ tree-passed a (R .2) (N .0) at (size c + suc f) (bytesOf c ++ (op ∷ post)) d
       ∙ tree-passed c (R .3) (N .1) (at + width a) (suc f) (op ∷ post) d′
-      ∙ operator-passed (at + width a + width c) op f post (omega (arith, R .1)) (past b (at + width a) (bytesOf c) (op ∷ post) d′)
+      ∙ operator-passed wide b (at + width a + width c) op f post (omega (arith, R .1)) (past b (at + width a) (bytesOf c) (op ∷ post) d′)
       ∙ ap (numbersStop wide b f) p
 
 -- no number of a whole tree is missing

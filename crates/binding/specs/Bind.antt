@@ -16,6 +16,7 @@ use Rattle.forms.specs.Form.{Parsed, tree, refusal, parsed, formStop}
 use Rattle.postfix.specs.Postfix.{bytesOf}
 use Rattle.numbering.specs.Number.{bindLeaf, namesStop}
 
+-- of a condition that is one: what stops its tree
 abbrev pub ofTree : (Tree ℕ → Stop) → Parsed → Stop
 ofTree f (tree t) = f t
 ofTree f (refusal number place) = never
@@ -48,6 +49,7 @@ abbrev pub valueAt : List Value → Where → Value
 valueAt row (found number) = getD row number null
 valueAt row nowhere = null
 
+-- a leaf that stands by its name, replaced by the row's value in the first column of that name
 unfoldable pub byName : List (List ℕ) → List Value → Atom → Atom
 byName names row (literal v) = literal v
 byName names row (column c) = column c

@@ -14,6 +14,7 @@ use Rattle.cells.specs.declared.ValueRef.the-variants.{Null, Int, Str, B
 abbrev pub kindOf : ℕ → ℕ
 kindOf word = word / 2 ^ 56
 
+-- the low 56 bits
 abbrev pub bodyOf : ℕ → ℕ
 bodyOf word = word % 2 ^ 56
 
@@ -29,6 +30,7 @@ isCell word = ltb (bodyOf word) (bodiesOf (kindOf word))
 abbrev pub startOf : ℕ → ℕ
 startOf word = word / 65536 % 2 ^ 32
 
+-- its length, the low 16 bits
 abbrev pub lengthOf : ℕ → ℕ
 lengthOf word = word % 65536
 

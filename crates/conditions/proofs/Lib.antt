@@ -5,3 +5,4 @@ pub mod Deciding
 pub mod Lying
 pub mod Walk
 pub mod Unique
+pub mod Nodes

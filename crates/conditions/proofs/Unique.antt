@@ -1,21 +1,19 @@
 -- Two results that satisfy a contract of this crate are equal, but for what docs/EXCEPTIONS.md leaves open; those of node_of and leaf are equations already.
 -- Assumes nothing.
 use mathlib.Core.Path.{_≡_, refl, sym, ap, _∙_}
-use mathlib.Core.List.{List, []}
-use mathlib.Core.Bool.{Bool, true, false}
+use mathlib.Core.List.{List}
+use mathlib.Core.Bool.{Bool, false}
 use Prim.Native.Nat.{ℕ}
 use native.Mathlib.Omega.{arith}
 use lib.ListN.{length, take, getD}
-use Rattle.cells.specs.Cell.{WellFormed, refOf, wordOf}
-use Rattle.cells.specs.declared.ValueRef.{ValueRef}
-use Rattle.cells.specs.declared.ValueRef.the-variants.{Null, Int, Str, Binary}
+use Rattle.cells.specs.Cell.{WellFormed, refOf}
 use Rattle.cells.proofs.Stops.{never-stops}
-use Rattle.cells.proofs.Words.{word-back}
-use Rattle.values.specs.Value.{Value, null, int, str, binary, valueOf, toValue, toBool}
-use Rattle.values.proofs.ByWord.{isStr, one-ref}
+use Rattle.values.specs.Value.{valueOf, toBool}
+use Rattle.values.proofs.ByWord.{isStr, one-word}
 use Rattle.integers.specs.Outcome.{Outcome, value}
 use Rattle.integers.specs.declared.Answer.{Answer}
 use Rattle.integers.specs.declared.Answer.the-variants.{Gave, Overflow, ShiftAmount, TooLong}
+use Rattle.integers.proofs.Unique.{one-value}
 use Rattle.operators.specs.declared.Rules.{Rules}
 use Rattle.conditions.specs.Ast.{decides}
 use Rattle.conditions.specs.Table.{nodeOf, Answers, Lies, LiesAt}
@@ -57,37 +55,7 @@ Same node after after′ Overflow s = Overflow ≡ s
 Same node after after′ ShiftAmount s = ShiftAmount ≡ s
 Same node after after′ TooLong s = TooLong ≡ s
 
--- a value that is no text is that of one cell, whatever the texts
-isText : Value → Bool
-isText null = false
-isText (int z) = false
-isText (str bytes) = true
-isText binary = false
-
-text-only : (x : List ℕ) (r : ValueRef) → isText (toValue x r) ≡ isStr r
-unfolding isText toValue
-text-only x Null = refl
-text-only x (Int z) = refl
-text-only x (Str s n) = refl
-text-only x Binary = refl
-
-in-any : (x : List ℕ) (r : ValueRef) → isStr r ≡ false → toValue x r ≡ toValue [] r
-unfolding toValue
-in-any x Null h = refl
-in-any x (Int z) h = refl
-in-any x (Str s n) h = absurd (let z : _≡_ {A = ℕ} 0 1 = cc in omega arith)
-in-any x Binary h = refl
-
-one-cell : (x y : List ℕ) (r s : ValueRef) → toValue x r ≡ toValue y s → isStr r ≡ false → r ≡ s
-one-cell x y r s e h =
-    let k : isStr s ≡ false = sym (text-only y s) ∙ ap isText (sym e) ∙ text-only x r ∙ h in
-    one-ref [] r s h (sym (in-any x r h) ∙ e ∙ in-any y s k)
-
--- what an outcome gives, and its refusal's number
-given : Outcome → Value
-given (value v) = v
-given (Outcome.refused number) = null
-
+-- the number of an outcome's refusal
 numbered : Outcome → ℕ
 numbered (value v) = 0
 numbered (Outcome.refused number) = number
@@ -100,7 +68,7 @@ one-leaf top (Two op l) row w w′ h k = tt
 alike : (node : Node) (x y : List ℕ) (u u′ w w′ : ℕ) → valueOf x w ≡ valueOf y w′ → WellFormed u w → WellFormed u′ w′ → SameLeaf node w w′ → Alike node x y w w′
 alike node x y u u′ w w′ e h k l = record {
   content = e;
-  exact = λ n. sym (word-back w (never-stops u w 0 h .0)) ∙ ap wordOf (one-cell x y (refOf w) (refOf w′) e n) ∙ word-back w′ (never-stops u′ w′ 0 k .0);
+  exact = λ n. one-word x y w w′ (never-stops u w 0 h .0) (never-stops u′ w′ 0 k .0) n e;
   leaf = l;
 }
 
@@ -110,9 +78,9 @@ module _ (R : Rules) (used top depth k : ℕ) (nodes row before after after′ :
 
   one-answer : (r s : Answer) → Answers R used top depth k nodes row before after r → Lies top node row r
       → Answers R used top depth k nodes row before after′ s → Lies top node row s → Same node after after′ r s
-  unfolding given numbered
+  unfolding numbered
   one-answer (Gave w u) (Gave w′ u′) h l i m =
-      alike node (take u after) (take u′ after′) u u′ w w′ (ap given (sym (h .says .0) ∙ i .says .0)) (h .says .1) (i .says .1) (one-leaf top node row w w′ l m)
+      alike node (take u after) (take u′ after′) u u′ w w′ (one-value (sym (h .says .0) ∙ i .says .0)) (h .says .1) (i .says .1) (one-leaf top node row w w′ l m)
   one-answer (Gave w u) Overflow h l i m = let e : _≡_ {A = ℕ} 0 5 = ap numbered (sym (h .says .0) ∙ i .says) in omega arith
   one-answer (Gave w u) ShiftAmount h l i m = let e : _≡_ {A = ℕ} 0 6 = ap numbered (sym (h .says .0) ∙ i .says) in omega arith
   one-answer (Gave w u) TooLong h l i m = let e : _≡_ {A = ℕ} 0 7 = ap numbered (sym (h .says .0) ∙ i .says) in omega arith

@@ -41,6 +41,7 @@ treeOf base (suc d) nodes k = grow base (nodeOf (getD nodes k 0)) (treeOf base d
 unfoldable pub LeafSound : ℕ → ℕ → ℕ → Type 0
 LeafSound used width w = cond (eqb (w / 2 ^ 56) 4) (w % 2 ^ 56 < width) (cond (eqb (w / 2 ^ 56) 3) ⊥ (WellFormed used w))
 
+-- a node that is sound, its operands standing before it and being sound themselves
 abbrev pub SoundAt : ℕ → ℕ → Node → (ℕ → Type 0) → ℕ → Type 0
 SoundAt used width (Leaf w) sub k = LeafSound used width w
 SoundAt used width (One op) sub k = ((16 ≤ op) × (op < 19)) × (0 < k) × sub (k - 1)

@@ -8,11 +8,12 @@ use native.Mathlib.Nat.{eq-or-lt-of-le}
 use native.Mathlib.Numerals.{add-one}
 use native.Mathlib.Omega.{arith}
 use Rattle.refusals.specs.Stop.{never, stopIf, orElse}
+use Rattle.slices.specs.Bytes.{isEqual}
 use Rattle.slices.specs.declared.Ordering.the-variants.{Equal}
 use Rattle.tables.specs.Table.{columnCount}
 use Rattle.marking.specs.Marks.{part}
 use Rattle.keys.specs.Key.{keyOrder}
-use Rattle.sorting.specs.Sorted.{Compare, isEqual, keyAmong, doubleStop, newStop}
+use Rattle.sorting.specs.Sorted.{Compare, keyAmong, doubleStop, newStop}
 use Rattle.sorting.proofs.Twice.{none-among}
 use Rattle.doubles.specs.Doubles.{FirstEqual}
 

@@ -50,10 +50,12 @@ abbrev pub atZero : Outcome → Result
 atZero (value v) = gave v
 atZero (Outcome.refused number) = Result.refused number 0
 
+-- of a condition that is one: what its tree comes to; of any other its refusal
 abbrev pub ofTree : (Tree ℕ → Outcome) → Parsed → Result
 ofTree f (tree t) = atZero (f t)
 ofTree f (refusal number place) = Result.refused number place
 
+-- a stop comes first
 abbrev pub unlessStopped : Stop → Result → Result
 unlessStopped never r = r
 unlessStopped (stop number place) r = Result.refused number place
@@ -68,6 +70,7 @@ pub record LiesIn (b row : List ℕ) (used nodes w : ℕ) : Type 0 where
   pub own : nodes ≡ 1 → w ≡ leafCell row (leafWord b 0 (getD b 0 0))
   pub above : 1 < nodes → kindOf w ≡ 2 → used ≤ startOf w
 
+-- document 01's numbers and values for the cases of `Evaluated`
 abbrev pub Says : List ℕ → List ℕ → List ℕ → ℕ → Evaluated → Result → Type 0
 Says b row after used (Cell w) o =
     (o ≡ gave (valueOf after w)) × WellFormed (length after) w × ((t : Tree ℕ) → parsed Bound used b ≡ tree t → LiesIn b row used (size t) w)

@@ -42,14 +42,17 @@ pub record Example : Type 0 where
 abbrev pub base : Rules
 base = record { limit = 1024 }
 
+-- what an operator comes to
 abbrev pub ofOutcome : Outcome → Expected
 ofOutcome (value v) = gives v
 ofOutcome (Outcome.refused number) = stops number
 
+-- what one evaluation comes to
 abbrev pub ofResult : Result → Expected
 ofResult (gave v) = gives v
 ofResult (Result.refused number place) = refuses number place
 
+-- what folding comes to
 abbrev pub ofFolding : Folding → Expected
 ofFolding (folded t stored) = writes (bytesOf t)
 ofFolding (Folding.refused number place) = refuses number place
@@ -58,6 +61,7 @@ ofFolding (Folding.refused number place) = refuses number place
 abbrev pub intColumn : List ℕ
 intColumn = 144115188075855873 ∷ 1 ∷ []
 
+-- what a join comes to
 abbrev pub ofJoin : Given → List Row → JoinOutcome → Expected
 ofJoin g rights (answered es) = writes (listWords (rowIn (g .left)) (rowIn rights) (g .columns) es)
 ofJoin g rights (JoinOutcome.refused number place) = refuses number place

@@ -30,6 +30,7 @@ three = 72057594037927939
 abbrev equality : List ℕ
 equality = 4 ∷ 0 ∷ 4 ∷ 1 ∷ 32 ∷ []
 
+-- document 01's checked examples, by their numbers
 unfoldable pub table : List Example
 table =
     record { number = 1; call = Call.binary 32 null null; answer = yes }

@@ -20,11 +20,12 @@ use Rattle.forms.specs.Form.{tree, nodeAt, parse, parsed, formStop}
 use Rattle.forms.specs.Held.{LeafHeld}
 use Rattle.forms.specs.Number.{numbersStop}
 use Rattle.forms.proofs.Numbers.{numbers-end}
+use Rattle.forms.proofs.Scanning.{parse-more}
 use Rattle.postfix.specs.Postfix.{leafBytes, bodyBytes, bytesOf, width}
 use Rattle.postfix.proofs.Leaves.{length-body, bytes-column}
 use Rattle.postfix.proofs.Numbers.{one-drop, one-little}
-use Rattle.postfix.proofs.Parsing.{parse-more}
 use Rattle.postfix.proofs.Reading.{LeafReadable, Readable, one-bytes, two-bytes, past, before, parse-tree, readable-parsed}
+use Rattle.postfix.proofs.Passing.{here, operator-passed}
 use Rattle.replacing.specs.Walk.{AllHeld}
 use Rattle.folding.proofs.Columns.{columnsOf}
 
@@ -114,18 +115,9 @@ module _ (form : Allowed) (used columns : ℕ) (b : List ℕ) where
       → numbersStop columns b (suc f) at ≡ orElse (stopIf (both (eqb k 4) (leb columns (getD post 0 0))) 4 at) (numbersStop columns b f (at + 1 + long k))
   unfolding numbersStop
   numbers-node f at k post e =
-      let p : getD b at 0 ≡ k = one-drop b at ∙ ap (λ l. getD l 0 0) e in
+      let p : getD b at 0 ≡ k = here columns b at k post e in
       let q : getD b (at + 1) 0 ≡ getD post 0 0 = one-drop b (at + 1) ∙ ap (λ l. getD l 0 0) (past b at (k ∷ []) post e) in
       rw (lt-ltb at (length b) (before b at k post e), p, q)
-
-  -- an operator is passed by
-  numbers-operator : (f at op : ℕ) (post : List ℕ) → 16 ≤ op → drop at b ≡ op ∷ post → numbersStop columns b (suc f) at ≡ numbersStop columns b f (at + 1)
-  unfolding long
-  numbers-operator f at op post l e =
-      let n : at + 1 + 0 ≡ at + 1 = omega arith in
-      numbers-node f at op post e
-      ∙ rw (ne-eqb op 1 (λ e. omega arith), ne-eqb op 2 (λ e. omega arith), ne-eqb op 3 (λ e. omega arith), ne-eqb op 4 (λ e. omega arith))
-      (ap (numbersStop columns b f) n)
 
   -- the number of a leaf
   leaf-missing : (w : ℕ) (post : List ℕ) → LeafReadable form used w → both (eqb (kindOf w) 4) (leb columns (getD (bodyBytes w ++ post) 0 0)) ≡ missing columns w
@@ -156,7 +148,7 @@ module _ (form : Allowed) (used columns : ℕ) (b : List ℕ) where
       let m : at + width a + 1 ≡ at + length (bytesOf a ++ (op ∷ [])) = omega (arith, length-append (bytesOf a) (op ∷ [])) in
       ap (λ i. placeless (numbersStop columns b i at)) n
       ∙ numbers-tree a (r .3) at (suc f) (op ∷ post) d
-      ∙ rw (numbers-operator f (at + width a) op post (r .1) (past b at (bytesOf a) (op ∷ post) d), m) (unfold columnsOf in refl)
+      ∙ rw (operator-passed columns b (at + width a) op f post (r .1) (past b at (bytesOf a) (op ∷ post) d), m) (unfold columnsOf in refl)
   numbers-tree (binary op a c) r at f post e =
       let d : drop at b ≡ bytesOf a ++ (bytesOf c ++ (op ∷ post)) = e ∙ two-bytes op a c post in
       let d′ = past b at (bytesOf a) (bytesOf c ++ (op ∷ post)) d in
@@ -166,7 +158,7 @@ module _ (form : Allowed) (used columns : ℕ) (b : List ℕ) where
       ap (λ i. placeless (numbersStop columns b i at)) n
       ∙ numbers-tree a (r .2) at (size c + suc f) (bytesOf c ++ (op ∷ post)) d
       ∙ ap (orElse (stopIf (lacks a) 4 0)) (numbers-tree c (r .3) (at + width a) (suc f) (op ∷ post) d′)
-      ∙ rw (numbers-operator f (at + width a + width c) op post (omega (arith, r .1)) (past b (at + width a) (bytesOf c) (op ∷ post) d′), m)
+      ∙ rw (operator-passed columns b (at + width a + width c) op f post (omega (arith, r .1)) (past b (at + width a) (bytesOf c) (op ∷ post) d′), m)
       (rw (some-two (missing columns) op a c) (sym (stop-either (lacks a) (lacks c) 4 (placeless (numbersStop columns b f (at + width (binary op a c)))))))
 
 -- the bytes of a readable tree get 4 where one of its columns is missing

@@ -1,26 +1,15 @@
 -- Refusal 4 from an offset on: a turn of a loop over the nodes, and its ends. Assumes nothing.
 use mathlib.Core.Path.{_≡_, refl, sym, ap, _∙_}
-use mathlib.Core.Bool.{Bool, true, false, cond}
+use mathlib.Core.Bool.{true, false}
 use mathlib.Core.List.{List}
 use Prim.Native.Nat.{ℕ, zero, suc, _+_, _-_, _≤_, _<_}
 use native.Mathlib.Omega.{arith}
 use lib.ListN.{length, getD, List·getD-eq-default}
-use lib.Dec.{eqb, leb}
+use lib.Dec.{leb}
 use borrow.Author.Tests.{lt-ltb, le-ltb, eq-eqb, ne-eqb}
 use Rattle.refusals.specs.Stop.{never, stop}
 use Rattle.nodes.specs.Kind.{bodyOf}
 use Rattle.forms.specs.Number.{isMissing, numbersStop}
-
-pub body-short : (k : ℕ) → bodyOf k ≤ 6
-unfolding bodyOf
-body-short k = by (eqb k 1) (eqb k 2) (eqb k 3) (eqb k 4)
-  where
-    by : (x y z w : Bool) → cond x 4 (cond y 6 (cond z 6 (cond w 1 0))) ≤ 6
-    by true y z w = omega arith
-    by false true z w = omega arith
-    by false false true w = omega arith
-    by false false false true = omega arith
-    by false false false false = omega arith
 
 -- one node, its kind read
 module _ (width : ℕ) (b : List ℕ) (at k : ℕ) (r : k ≡ getD b at 0) where

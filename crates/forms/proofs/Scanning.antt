@@ -43,15 +43,18 @@ scan-start form used b nodes starts deeps h k l = record {
 
 -- ---- the definition, one node on
 
+-- a node, and then the rest
 pub parse-more : (form : Allowed) (used : ℕ) (b : List ℕ) (f at : ℕ) (s : List (Tree ℕ)) → at < length b →
     parse form used b (suc f) at s ≡ follow (nodeAt form used b at (getD b at 0) s) at (λ s′ next. parse form used b f next s′)
 unfolding parse
 parse-more form used b f at s h = rw (lt-ltb at (length b) h)
 
-parse-full : (form : Allowed) (used : ℕ) (b : List ℕ) (at : ℕ) (s : List (Tree ℕ)) → at < length b → parse form used b 0 at s ≡ refusal 2 at
+-- one node too many
+pub parse-full : (form : Allowed) (used : ℕ) (b : List ℕ) (at : ℕ) (s : List (Tree ℕ)) → at < length b → parse form used b 0 at s ≡ refusal 2 at
 unfolding parse
 parse-full form used b at s h = rw (lt-ltb at (length b) h)
 
+-- the end of the bytes
 pub parse-end : (form : Allowed) (used : ℕ) (b : List ℕ) (f at : ℕ) (s : List (Tree ℕ)) → length b ≤ at → parse form used b f at s ≡ finish s at
 unfolding parse
 parse-end form used b zero at s h = rw (le-ltb at (length b) h)

@@ -9,6 +9,7 @@ use Rattle.nodes.specs.Kind.{known, bodyOf, leafWord, textFits}
 use Rattle.nodes.specs.declared.Allowed.{Allowed}
 use Rattle.conditions.specs.Ast.{Tree, leaf, unary, binary, height}
 
+-- a condition's tree, or a refusal's number and place
 pub data Parsed : Type 0 where
   tree : Tree ℕ → Parsed
   refusal : ℕ → ℕ → Parsed
@@ -27,6 +28,7 @@ abbrev pub onOne : ℕ → List (Tree ℕ) → ℕ → Move
 onOne op [] next = stop 1
 onOne op (a ∷ s) next = pushed (unary op a) s next
 
+-- a two-sided operator takes the two trees on top, the right one uppermost
 abbrev pub onTwo : ℕ → List (Tree ℕ) → ℕ → Move
 onTwo op [] next = stop 1
 onTwo op (b ∷ []) next = stop 1
@@ -48,6 +50,7 @@ finish [] at = refusal 1 at
 finish (t ∷ []) at = tree t
 finish (t ∷ (u ∷ s)) at = refusal 1 at
 
+-- what a node came to, then the rest; a refusal is told at the node's offset
 abbrev pub follow : Move → ℕ → (List (Tree ℕ) → ℕ → Parsed) → Parsed
 follow (go s next) at rest = rest s next
 follow (stop n) at rest = refusal n at

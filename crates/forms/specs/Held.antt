@@ -54,6 +54,7 @@ StepFine at n b (Took word start deep next) =
     (start ≤ n) × (deep ≤ 16) × (at < next) × (next ≤ length b) × (n ≡ 0 → word ≡ leafWord b at (getD b at 0))
 StepFine at n b (Refused r) = told r .place ≡ at
 
+-- the same of an operator, which is never the first node
 abbrev pub OperatorFine : ℕ → ℕ → ℕ → Step → Type 0
 OperatorFine at n next (Took word start deep after) = (start ≤ n) × (deep ≤ 16) × (after ≡ next) × (n ≡ 0 → ⊥)
 OperatorFine at n next (Refused r) = told r .place ≡ at

@@ -22,6 +22,7 @@ rowsIn columns rows = length rows / columnCount columns
 abbrev pub sortedWords : List ℕ → List ℕ → List ℕ → ℕ → List ℕ → ℕ → List ℕ
 sortedWords columns stored old m new n = wordsOf (part (old ++ new) (columnCount columns)) (inKeyOrder (compareRows columns stored (old ++ new)) (m + n))
 
+-- what insert writes: old and new rows in key order
 abbrev pub inserted : List ℕ → List ℕ → List ℕ → List ℕ → List ℕ
 inserted columns stored old new = sortedWords columns stored old (rowsIn columns old) new (rowsIn columns new)
 

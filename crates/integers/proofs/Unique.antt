@@ -1,8 +1,10 @@
 -- Two answers that tell the same are the same, so every contract of this crate has one result. Assumes nothing.
 use mathlib.Core.Path.{_≡_, refl, sym, ap, _∙_}
 use mathlib.Core.Bool.{cond}
+use Prim.Native.Nat.{ℕ}
 use lib.Dec.{eqb}
-use Rattle.integers.specs.Outcome.{Reply, gave, refused, replyOf}
+use Rattle.values.specs.Value.{Value}
+use Rattle.integers.specs.Outcome.{Outcome, value, Reply, gave, refused, replyOf}
 use Rattle.integers.specs.declared.Answer.{Answer}
 use Rattle.integers.specs.declared.Answer.the-variants.{Gave, Overflow, ShiftAmount, TooLong}
 
@@ -19,3 +21,10 @@ back TooLong = refl
 
 pub one-answer : (a b : Answer) → replyOf a ≡ replyOf b → a ≡ b
 one-answer a b e = sym (back a) ∙ ap answer e ∙ back b
+
+-- what two equal outcomes give, and two equal replies
+pub one-value : {v w : Value} → _≡_ {A = Outcome} (value v) (value w) → v ≡ w
+one-value e = cc
+
+pub one-gave : {r s t u : ℕ} → _≡_ {A = Reply} (gave r t) (gave s u) → r ≡ s
+one-gave e = cc

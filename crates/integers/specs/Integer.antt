@@ -27,6 +27,7 @@ fitted z = cond (isInt32 z) (value (int z)) (refused 5)
 abbrev pub onBits : (ℕ → ℕ → ℕ) → ℤ → ℤ → Outcome
 onBits f x y = value (int (toZ w32 (f (ofZ w32 x) (ofZ w32 y))))
 
+-- the number 0
 abbrev pub isZero : ℤ → Bool
 isZero (pos zero) = true
 isZero (pos (suc n)) = false

@@ -9,20 +9,17 @@ use lib.Dec.{ltb}
 use lib.IntN.{ℤ, pos, negsuc}
 use lib.Signed.{ltZ}
 use borrow.Author.Tests.{lt-ltb, le-ltb, ltb-true, ltb-false}
+use Rattle.refusals.proofs.Bools.{true-false}
 use Rattle.slices.specs.Bytes.{byTests, byBytes}
 use Rattle.slices.specs.declared.Ordering.{Ordering}
 use Rattle.slices.specs.declared.Ordering.the-variants.{Less, Equal, Greater}
 use Rattle.values.specs.Value.{Value, null, int, str, binary}
 use Rattle.values.specs.Order.{order}
-use Rattle.values.proofs.Ordered.{order-equal, tests-equal}
+use Rattle.values.proofs.Ordered.{order-equal, tests-equal, ints-one-way}
 use Rattle.keys.specs.Key.{thenBy}
 use Rattle.keys.proofs.Chains.{flip, Chain, flip-then, less-any, any-greater, chain-then, chain-of, Strict, strict-turned, strict-less}
 
 -- ---- numbers
-
--- a test doesn't both fail and hold
-no-test : {X : Type 0} → false ≡ true → X
-no-test e = absurd (let z : _≡_ {A = ℕ} 0 1 = cc in omega arith)
 
 -- natural numbers
 numbers : Strict ℕ ltb
@@ -44,20 +41,13 @@ number-equal a b e = let q = tests-equal (ltb a b) (ltb b a) e in le-antisymm (l
 number-chain : (a b c : ℕ) → Chain (byNumbers a b) (byNumbers b c) (byNumbers a c)
 number-chain = chain-of byNumbers number-equal (strict-turned ltb numbers) (strict-less ltb numbers)
 
--- integers: the test holds one way
-ints-one-way : (x y : ℤ) → ltZ x y ≡ true → ltZ y x ≡ false
-ints-one-way (pos a) (pos b) e = numbers .one-way a b e
-ints-one-way (pos a) (negsuc b) e = no-test e
-ints-one-way (negsuc a) (pos b) e = refl
-ints-one-way (negsuc a) (negsuc b) e = numbers .one-way b a e
-
--- and twice in a row
+-- integers: the test holds twice in a row
 ints-in-a-row : (x y z : ℤ) → ltZ x y ≡ true → ltZ y z ≡ true → ltZ x z ≡ true
 ints-in-a-row (pos a) (pos b) (pos c) e f = numbers .in-a-row a b c e f
-ints-in-a-row (pos a) (pos b) (negsuc c) e f = no-test f
-ints-in-a-row (pos a) (negsuc b) z e f = no-test e
+ints-in-a-row (pos a) (pos b) (negsuc c) e f = true-false (sym f)
+ints-in-a-row (pos a) (negsuc b) z e f = true-false (sym e)
 ints-in-a-row (negsuc a) y (pos c) e f = refl
-ints-in-a-row (negsuc a) (pos b) (negsuc c) e f = no-test f
+ints-in-a-row (negsuc a) (pos b) (negsuc c) e f = true-false (sym f)
 ints-in-a-row (negsuc a) (negsuc b) (negsuc c) e f = numbers .in-a-row c b a f e
 
 -- so they are ordered by it

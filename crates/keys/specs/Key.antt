@@ -54,6 +54,7 @@ rowsStop columns size used first second =
     ∷ wordsStop used (columns ∷ [] ∷ []) (first ∷ second ∷ [])
     ∷ [])
 
+-- the empty part where something stops it
 abbrev pub unlessStopped : Stop → List ℕ → List ℕ
 unlessStopped never row = row
 unlessStopped (stop number place) row = []

@@ -2,13 +2,15 @@
 use mathlib.Core.Path.{_≡_, refl, sym, ap, ap₂, _∙_}
 use mathlib.Core.Bool.{Bool, true, false, not, cond}
 use mathlib.Core.List.{List, [], _∷_, _++_}
+use mathlib.Core.Logic.{⊎-elim}
 use Prim.Native.Nat.{ℕ, zero, suc, _+_, _-_, _*_, _≤_, _<_}
 use native.Mathlib.Omega.{arith}
-use native.Mathlib.Nat.{add-zero, zero-add, zero-mul, suc-mul}
+use native.Mathlib.Nat.{eq-or-lt-of-le, add-zero, zero-add, zero-mul, suc-mul}
 use native.Mathlib.Numerals.{add-one}
 use lib.ListN.{length, take, drop, getD, length-append, List·getD-append}
 use lib.Seq.{take-length}
-use Rattle.refusals.specs.Stop.{never, orElse}
+use Rattle.testing.specs.Test.{refuses}
+use Rattle.refusals.specs.Stop.{never, stop, orElse}
 use Rattle.refusals.proofs.First.{never-both}
 use Rattle.cells.specs.Cell.{cellStop}
 use Rattle.cells.proofs.Stops.{never-stops, stop-never}
@@ -57,6 +59,17 @@ module _ (i n : ℕ) where
     pub flags-end : (t : Test) → flagsFrom t i (n - i) ≡ []
     unfolding flagsFrom
     flags-end t = rw none
+
+-- where there is no first refusal, no row is refused
+pub none-refused : (t : Test) (k n j number : ℕ) → refusedFrom t k n ≡ never → k ≤ j → j < k + n → t j ≡ refuses number → ⊥
+unfolding refusedFrom
+none-refused t k zero j number h l b e = let z : ⊥ = omega arith in z
+none-refused t k (suc n) j number h l b e =
+    let r = never-both (stopAt (t k) k) (refusedFrom t (suc k) n) h in
+    ⊎-elim
+    (λ q. let f : stop number k ≡ never = ap (λ o. stopAt o k) (sym (ap t q ∙ e)) ∙ r .0 in absurd (let z : _≡_ {A = ℕ} 0 1 = cc in omega arith))
+    (λ q. none-refused t (suc k) n j number (r .1) q (omega arith) e)
+    (eq-or-lt-of-le l)
 
 -- ---- how many, and which
 

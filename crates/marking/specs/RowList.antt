@@ -24,6 +24,7 @@ keptFrom keeps i (suc n) = cond (keeps i) (i ∷ keptFrom keeps (suc i) n) (kept
 abbrev pub trueRows : Test → ℕ → List ℕ
 trueRows t n = keptFrom (λ i. isTrue (t i)) 0 n
 
+-- the rows that are not true, which delete keeps
 abbrev pub otherRows : Test → ℕ → List ℕ
 otherRows t n = keptFrom (λ i. not (isTrue (t i))) 0 n
 

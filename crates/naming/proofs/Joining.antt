@@ -7,7 +7,8 @@ use native.Mathlib.Omega.{arith}
 use native.Mathlib.Nat.{add-zero}
 use native.Mathlib.Numerals.{add-one}
 use lib.ListN.{length, take, drop, set, getD, length-set, length-drop}
-use lib.Seq.{drop-cons, take-take, take-suc-set}
+use lib.Seq.{take-take, take-suc-set}
+use Rattle.slices.proofs.Pieces.{pair-drop}
 use Rattle.refusals.specs.Stop.{never}
 use Rattle.refusals.specs.declared.Refusal.the-variants.{TooLong}
 use Rattle.refusals.proofs.First.{never-both}
@@ -43,20 +44,13 @@ two-more l k n a b h e =
 
 -- ---- the columns from one on
 
--- a column's two words, then the rest
-pair : (l : List ℕ) (i : ℕ) → i < length l / 2 → drop (2 * i) l ≡ getD l (2 * i) 0 ∷ getD l (2 * i + 1) 0 ∷ drop (2 * (i + 1)) l
-pair l i h =
-    let e : suc (suc (2 * i)) ≡ 2 * (i + 1) = omega arith in
-    let f : suc (2 * i) ≡ 2 * i + 1 = omega arith in
-    drop-cons l (2 * i) 0 (omega arith) ∙ ap (λ x. getD l (2 * i) 0 ∷ x) (drop-cons l (suc (2 * i)) 0 (omega arith) ∙ rw (e, f))
-
 module _ (table : List ℕ) (nullable : Bool) where
   -- one column of a side, then the rest
   one-column : (l : List ℕ) (i number : ℕ) (rest : List ℕ → Head) (s : List ℕ) (n : Named) → i < length l / 2 → nameOf table s (getD l (2 * i) 0) ≡ n
       → sideOf table nullable number (drop (2 * i) l) rest s
       ≡ ofName n number (ruleOf nullable (getD l (2 * i + 1) 0)) (λ s′. sideOf table nullable (suc number) (drop (2 * (i + 1)) l) rest s′)
   unfolding sideOf
-  one-column l i number rest s n h e = rw (pair l i h, e)
+  one-column l i number rest s n h e = rw (pair-drop l i h, e)
 
   -- no column is left
   no-column : (l : List ℕ) (number : ℕ) (rest : List ℕ → Head) (s : List ℕ) → length l ≤ 1 → sideOf table nullable number l rest s ≡ rest s

@@ -24,9 +24,11 @@ pub data Named : Type 0 where
   named : ℕ → List ℕ → Named
   tooLong : Named
 
+-- a new name at the mark, 7 where it is over 255 bytes
 abbrev pub appended : List ℕ → List ℕ → Named
 appended name stored = cond (leb (length name) 255) (named (wordOf (Str (length stored) (length name))) (stored ++ name)) tooLong
 
+-- a column's name in the joined table
 abbrev pub nameOf : List ℕ → List ℕ → ℕ → Named
 nameOf [] stored word = named word stored
 nameOf (b ∷ table) stored word = appended (prefixed (b ∷ table) (piece (startOf word) (lengthOf word) stored)) stored
@@ -41,6 +43,7 @@ abbrev pub behind : ℕ → ℕ → Head → Head
 behind name rule (joined words stored) = joined (name ∷ rule ∷ words) stored
 behind name rule (Head.refused number place) = Head.refused number place
 
+-- a column by its name, then the rest; 7 at the column where the name is too long
 abbrev pub ofName : Named → ℕ → ℕ → (List ℕ → Head) → Head
 ofName (named word stored) column rule rest = behind word rule (rest stored)
 ofName tooLong column rule rest = Head.refused 7 column

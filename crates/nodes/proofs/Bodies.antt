@@ -1,9 +1,9 @@
 -- Bodies by kind, and known kinds. Assumes nothing.
 use mathlib.Core.Path.{_≡_, refl, sym, _∙_}
-use mathlib.Core.Bool.{Bool, true, false}
+use mathlib.Core.Bool.{Bool, true, false, cond}
 use Prim.Native.Nat.{ℕ, _≤_, _<_}
 use native.Mathlib.Omega.{arith}
-use lib.Dec.{ltb}
+use lib.Dec.{ltb, eqb}
 use borrow.Author.Tests.{le-ltb, lt-ltb, ltb-true, ltb-false}
 use Rattle.refusals.proofs.Bools.{true-false}
 use Rattle.slices.proofs.Both.{both-true}
@@ -26,6 +26,18 @@ module _ (k : ℕ) where
   pub body-column : k ≡ 4 → bodyOf k ≡ 1
   unfolding bodyOf
   body-column e = rw e
+
+-- no body is longer than 6 bytes
+pub body-short : (k : ℕ) → bodyOf k ≤ 6
+unfolding bodyOf
+body-short k = by (eqb k 1) (eqb k 2) (eqb k 3) (eqb k 4)
+  where
+    by : (x y z w : Bool) → cond x 4 (cond y 6 (cond z 6 (cond w 1 0))) ≤ 6
+    by true y z w = omega arith
+    by false true z w = omega arith
+    by false false true w = omega arith
+    by false false false true = omega arith
+    by false false false false = omega arith
 
 pub known-kind : (form : Allowed) (k : ℕ) → known form k ≡ true → isKind k ≡ true
 unfolding known

@@ -21,6 +21,7 @@ allows Named k = not (eqb k 4)
 allows Bound k = not (eqb k 3)
 allows Mixed k = true
 
+-- a kind that the form allows
 unfoldable pub known : Allowed → ℕ → Bool
 known form k = both (isKind k) (allows form k)
 
@@ -32,6 +33,7 @@ bodyOf k = cond (eqb k 1) 4 (cond (eqb k 2) 6 (cond (eqb k 3) 6 (cond (eqb k 4) 
 abbrev pub two : List ℕ → ℕ → ℕ
 two b i = getD b i 0 + 256 * getD b (i + 1) 0
 
+-- a number of four bytes likewise
 abbrev pub four : List ℕ → ℕ → ℕ
 four b i = two b i + 65536 * two b (i + 2)
 

@@ -24,6 +24,7 @@ numbered w nowhere = w
 unfoldable pub bindLeaf : List ℕ → List ℕ → ℕ → ℕ
 bindLeaf stored columns w = cond (eqb (kindOf w) 3) (numbered w (columnOf stored columns w)) w
 
+-- no column has the name
 abbrev pub isNowhere : Where → Bool
 isNowhere nowhere = true
 isNowhere (found number) = false

@@ -1,27 +1,21 @@
 -- Two results that satisfy an operator's contract are equal: the answer and the text after it. Assumes nothing.
-use mathlib.Core.Path.{_≡_, sym, ap, _∙_}
+use mathlib.Core.Path.{_≡_, sym, _∙_}
 use mathlib.Core.Bool.{Bool}
 use mathlib.Core.List.{List}
 use Prim.Native.Nat.{ℕ}
 use lib.ListN.{length}
 use Rattle.cells.specs.Cell.{WellFormed}
 use Rattle.values.specs.Value.{valueOf, fromBool}
-use Rattle.integers.specs.Outcome.{Outcome, value, Reply, gave, placed, replyOf}
+use Rattle.integers.specs.Outcome.{Outcome, value, gave, placed, replyOf}
 use Rattle.integers.specs.declared.Answer.{Answer}
-use Rattle.integers.proofs.Unique.{one-answer}
+use Rattle.integers.proofs.Unique.{one-answer, one-gave}
 use Rattle.operators.specs.Operator.{Applied, unaryOf}
 use Rattle.operators.specs.declared.Rules.{Rules}
-
--- the word of a reply
-wordIn : Reply → ℕ
-wordIn (gave word top) = word
-wordIn (Reply.refused number) = 0
 
 -- flag
 pub one-flag : (b : Bool) (r s : ℕ) → ((top : ℕ) → gave r top ≡ placed top (value (fromBool b)))
     → ((top : ℕ) → gave s top ≡ placed top (value (fromBool b))) → r ≡ s
-unfolding wordIn
-one-flag b r s f g = ap wordIn (f 0 ∙ sym (g 0))
+one-flag b r s f g = one-gave (f 0 ∙ sym (g 0))
 
 -- the two-sided operators
 pub one-result : {before after after′ : List ℕ} {top : ℕ} {r s : Answer} {o : Outcome}

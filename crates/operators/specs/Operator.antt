@@ -1,31 +1,20 @@
 -- The operators over values: UnOp::eval and BinOp::eval of expr.rs, with document 01's refusals. Assumes nothing: these are definitions.
 use Prim.Native.Nat.{ℕ, _+_, _≤_}
 use mathlib.Core.Path.{_≡_}
-use mathlib.Core.Bool.{Bool, true, false, not, cond}
+use mathlib.Core.Bool.{Bool, false, not, cond}
 use mathlib.Core.List.{List, _++_}
 use lib.ListN.{length}
 use lib.Dec.{ltb, leb, eqb}
 use lib.IntN.{ℤ}
 use Rattle.slices.specs.Splice.{splice}
-use Rattle.slices.specs.Bytes.{both, isEqual}
+use Rattle.slices.specs.Bytes.{both, isEqual, isLess, isGreater}
 use Rattle.slices.specs.declared.Ordering.{Ordering}
-use Rattle.slices.specs.declared.Ordering.the-variants.{Less, Equal, Greater}
 use Rattle.values.specs.Value.{Value, null, int, str, binary, toBool, fromBool}
 use Rattle.values.specs.Order.{order}
 use Rattle.integers.specs.Outcome.{Outcome, value, replyOf, placed}
 use Rattle.integers.specs.Integer.{isZero, onInts, negated, inverted}
 use Rattle.integers.specs.declared.Answer.{Answer}
 use Rattle.operators.specs.declared.Rules.{Rules}
-
-abbrev pub isLess : Ordering → Bool
-isLess Less = true
-isLess Equal = false
-isLess Greater = false
-
-abbrev pub isGreater : Ordering → Bool
-isGreater Less = false
-isGreater Equal = false
-isGreater Greater = true
 
 -- 32 to 37, in this order: = != < <= > >=
 unfoldable pub holds : ℕ → Ordering → Bool
@@ -55,6 +44,7 @@ onKinds R op (str a) (str b) = cond (eqb op 38) (joined (R .limit) a b) (value n
 onKinds R op (str a) binary = value null
 onKinds R op binary w = value null
 
+-- Int 0, by which nothing is divided
 abbrev pub isIntZero : Value → Bool
 isIntZero null = false
 isIntZero (int y) = isZero y

@@ -14,8 +14,8 @@ use Rattle.nodes.specs.Kind.{known, isKind}
 use Rattle.nodes.specs.declared.Allowed.{Allowed}
 use Rattle.nodes.specs.declared.Allowed.the-variants.{Named, Bound, Mixed}
 use Rattle.forms.specs.Form.{tree, refusal, parse, parsed}
+use Rattle.forms.proofs.Scanning.{parse-full}
 use Rattle.postfix.specs.Postfix.{leafBytes, bytesOf, width}
-use Rattle.postfix.proofs.Parsing.{parse-full}
 use Rattle.postfix.proofs.Reading.{Readable, one-bytes, two-bytes, past, before, parse-tree, parse-deep, readable-parsed}
 
 -- the bytes of each node, in postfix order

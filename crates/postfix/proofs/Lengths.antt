@@ -1,33 +1,19 @@
 -- How long a condition can be, and how far on a refusal can stand: 64 nodes of at most 7 bytes. Assumes nothing.
 use mathlib.Core.Path.{_≡_}
-use mathlib.Core.Bool.{Bool, true, false, cond}
 use mathlib.Core.List.{List, [], _∷_}
 use Prim.Native.Nat.{ℕ, _+_, _*_, _≤_}
 use native.Mathlib.Omega.{arith}
 use lib.ListN.{length, getD}
-use lib.Dec.{eqb}
 use Rattle.conditions.specs.Ast.{Tree}
-use Rattle.nodes.specs.Kind.{bodyOf}
 use Rattle.nodes.specs.declared.Allowed.{Allowed}
+use Rattle.nodes.proofs.Bodies.{body-short}
 use Rattle.forms.specs.Form.{tree, refusal, go, finish, parsed}
 use Rattle.postfix.proofs.Parsing.{node, parse-all, node-went}
-
--- a node has at most 7 bytes
-pub body-small : (k : ℕ) → bodyOf k ≤ 6
-unfolding bodyOf
-body-small k = by (eqb k 1) (eqb k 2) (eqb k 3) (eqb k 4)
-  where
-    by : (p q r s : Bool) → cond p 4 (cond q 6 (cond r 6 (cond s 1 0))) ≤ 6
-    by true q r s = omega arith
-    by false true r s = omega arith
-    by false false true s = omega arith
-    by false false false true = omega arith
-    by false false false false = omega arith
 
 module _ (form : Allowed) (used : ℕ) (b : List ℕ) where
   -- a node that goes on ends at most 7 bytes on
   node-short : (at : ℕ) (s s′ : List (Tree ℕ)) (next : ℕ) → node form used b at s ≡ go s′ next → next ≤ at + 7
-  node-short at s s′ next e = omega (arith, node-went form used b at (getD b at 0) s s′ next e .after, body-small (getD b at 0))
+  node-short at s s′ next e = omega (arith, node-went form used b at (getD b at 0) s s′ next e .after, body-short (getD b at 0))
 
   -- a condition that is one has at most 448 bytes
   pub parsed-length : (t : Tree ℕ) → parsed form used b ≡ tree t → length b ≤ 448

@@ -7,3 +7,4 @@ pub mod Numbers
 pub mod Readable
 pub mod Reading
 pub mod Joined
+pub mod Passing

@@ -6,7 +6,7 @@ use Prim.Native.Nat.{ℕ, zero, suc, _+_, _≤_, _<_}
 use native.Mathlib.Omega.{arith}
 use lib.ListN.{length, getD}
 use lib.Dec.{ltb, leb}
-use borrow.Author.Tests.{lt-ltb, le-ltb, ltb-true, ltb-false, leb-true}
+use borrow.Author.Tests.{ltb-true, ltb-false, leb-true}
 use Rattle.conditions.specs.Ast.{Tree, leaf, unary, binary, height}
 use Rattle.nodes.specs.Kind.{known, bodyOf, leafWord, textFits}
 use Rattle.nodes.specs.declared.Allowed.{Allowed}
@@ -16,22 +16,6 @@ module _ (form : Allowed) (used : ℕ) (b : List ℕ) where
   -- the node that stands at an offset
   abbrev pub node : ℕ → List (Tree ℕ) → Move
   node at s = nodeAt form used b at (getD b at 0) s
-
-  -- a node, and then the rest
-  pub parse-more : (f at : ℕ) (s : List (Tree ℕ)) → at < length b → parse form used b (suc f) at s ≡ follow (node at s) at (λ s′ next. parse form used b f next s′)
-  unfolding parse
-  parse-more f at s h = rw (lt-ltb at (length b) h)
-
-  -- one node too many
-  pub parse-full : (at : ℕ) (s : List (Tree ℕ)) → at < length b → parse form used b 0 at s ≡ refusal 2 at
-  unfolding parse
-  parse-full at s h = rw (lt-ltb at (length b) h)
-
-  -- the end of the bytes
-  pub parse-end : (f at : ℕ) (s : List (Tree ℕ)) → length b ≤ at → parse form used b f at s ≡ finish s at
-  unfolding parse
-  parse-end zero at s h = rw (le-ltb at (length b) h)
-  parse-end (suc f) at s h = rw (le-ltb at (length b) h)
 
   -- what holds at each way out and is kept by each node holds of the whole
   module _ (P : ℕ → ℕ → List (Tree ℕ) → Parsed → Type 0)

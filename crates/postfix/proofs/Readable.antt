@@ -17,8 +17,8 @@ use Rattle.nodes.specs.Kind.{known, bodyOf as long, leafWord, textFits, two, fo
 use Rattle.nodes.specs.declared.Allowed.{Allowed}
 use Rattle.postfix.specs.Postfix.{little, bodyBytes, leafBytes}
 use Rattle.postfix.proofs.Leaves.{bytes-int, bytes-text, bytes-name, bytes-column}
-use Rattle.postfix.proofs.Lengths.{body-small}
 use Rattle.nodes.proofs.Numbers.{Small, two-small, four-small}
+use Rattle.nodes.proofs.Bodies.{body-short}
 use Rattle.postfix.proofs.Numbers.{small-drop, one-drop, two-drop, four-drop, one-little, two-little, four-little, little-one, little-two, little-four}
 
 -- a leaf's word: a kind of leaf that the form has, a body that the kind's bytes can hold, a text that ends at or before the mark, and a name's length
@@ -111,7 +111,7 @@ module _ (k x : ℕ) (h : x < 2 ^ 56) where
 
 -- a body is below 2^56
 body-below : (k x : ℕ) → x < 256 ^ long k → x < 2 ^ 56
-body-below k x h = let p : 256 ^ long k ≤ 256 ^ 6 = pow-le-pow-right (omega arith) (body-small k) in omega arith
+body-below k x h = let p : 256 ^ long k ≤ 256 ^ 6 = pow-le-pow-right (omega arith) (body-short k) in omega arith
 
 -- a leaf by its kind and its body
 pub leaf-readable : (form : Allowed) (used k x : ℕ) → k < 5 → known form k ≡ true → x < 256 ^ long k

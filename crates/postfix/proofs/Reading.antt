@@ -13,14 +13,14 @@ use Rattle.cells.specs.Cell.{kindOf}
 use Rattle.conditions.specs.Ast.{Tree, leaf, unary, binary, height, size}
 use Rattle.nodes.specs.Kind.{known, bodyOf, textFits, leafWord}
 use Rattle.nodes.specs.declared.Allowed.{Allowed}
-use Rattle.nodes.proofs.Bodies.{known-leaf, known-below}
+use Rattle.nodes.proofs.Bodies.{known-leaf, known-below, body-short}
 use Rattle.forms.specs.Form.{tree, refusal, go, onOne, onTwo, nodeAt, finish, follow, parse, parsed}
+use Rattle.forms.proofs.Scanning.{parse-more, parse-end}
 use Rattle.postfix.specs.Postfix.{leafBytes, bodyBytes, bytesOf, width}
 use Rattle.postfix.proofs.Leaves.{length-body, small-body}
 use Rattle.nodes.proofs.Numbers.{Small}
 use Rattle.postfix.proofs.Numbers.{small-nil, small-cons, small-append, one-drop}
-use Rattle.postfix.proofs.Parsing.{parse-more, parse-end, parse-all, Went, Became, put, one, two, node-went}
-use Rattle.postfix.proofs.Lengths.{body-small}
+use Rattle.postfix.proofs.Parsing.{parse-all, Went, Became, put, one, two, node-went}
 use Rattle.postfix.proofs.Readable.{word-by, text-by, leaf-read}
 pub use Rattle.postfix.proofs.Readable.{LeafReadable}
 unfoldable pub use Rattle.postfix.proofs.Readable.{Readable}
@@ -257,7 +257,7 @@ module _ (form : Allowed) (used : ℕ) (b : List ℕ) (B : Small b) where
 
 -- a leaf takes at most 7 bytes
 pub leaf-width : (w : ℕ) → length (leafBytes w) ≤ 7
-leaf-width w = omega (arith, length-body w, body-small (kindOf w))
+leaf-width w = omega (arith, length-body w, body-short (kindOf w))
 
 -- a tree takes at most 7 bytes a node
 pub width-size : (t : Tree ℕ) → width t ≤ 7 * size t

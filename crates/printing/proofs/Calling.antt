@@ -1,15 +1,15 @@
 -- The call `print`: which check stops it, and what its answer says. Assumes nothing.
-use mathlib.Core.Path.{_≡_, refl, sym, ap, subst, _∙_}
+use mathlib.Core.Path.{_≡_, sym, ap, subst, _∙_}
 use mathlib.Core.List.{List}
 use Prim.Native.Nat.{ℕ, _-_, _≤_, _<_}
 use native.Mathlib.Omega.{arith}
 use lib.ListN.{length, take}
 use lib.Seq.{length-take-le}
 use borrow.Author.Tests.{lt-ltb, le-ltb}
-use Rattle.refusals.specs.Stop.{Stop, never, stop, orElse, stopOf}
+use Rattle.refusals.specs.Stop.{Stop, never, orElse, stopOf}
 use Rattle.refusals.specs.declared.Refusal.{Refusal}
 use Rattle.refusals.specs.declared.Refusal.the-variants.{OutputShort}
-use Rattle.refusals.proofs.First.{never-both}
+use Rattle.refusals.proofs.First.{never-both, last-of-four}
 use Rattle.writing.specs.Writing.{count}
 use Rattle.writing.specs.declared.Written.the-variants.{Count, Refused}
 use Rattle.writing.proofs.Answers.{refused-is}
@@ -65,14 +65,6 @@ module _ (b text : List ℕ) (used : ℕ) where
         pub prepared : textsStop (take used text) b 64 0 ≡ never → PreparedIs b (take used text) (length text) used nodes (Table n)
         prepared q = (rw (h, table .1, q), table)
 
--- the last check comes after the others
-last-check : (s t u v : Stop) → orElse s (orElse t (orElse u (orElse v never))) ≡ orElse (orElse s (orElse t (orElse u never))) v
-last-check (stop n p) t u v = refl
-last-check never (stop n p) u v = refl
-last-check never never (stop n p) v = refl
-last-check never never never (stop n p) = refl
-last-check never never never never = refl
-
 -- ---- the answer
 
 module _ (b text out : List ℕ) (used : ℕ) where
@@ -82,7 +74,7 @@ module _ (b text out : List ℕ) (used : ℕ) where
 
   -- it comes after what is looked at before the output
   then-nine : printStop b (take used text) (length text) used (length out) ≡ orElse (beforeStop b (take used text) (length text) used) nine
-  then-nine = last-check (roomStop 0 (length text) used) (formStop (parsed Named used b)) (textsStop (take used text) b 64 0) nine
+  then-nine = last-of-four (roomStop 0 (length text) used) (formStop (parsed Named used b)) (textsStop (take used text) b 64 0) nine
 
   -- what is stopped before the output is stopped
   pub print-denied : (nodes : List ℕ) (x : Scanned) → PreparedIs b (take used text) (length text) used nodes x → (r : Refusal) → x ≡ Denied r

@@ -14,8 +14,9 @@ use Rattle.nodes.specs.Kind.{bodyOf, leafWord, textFits, two, four}
 use Rattle.nodes.specs.declared.Allowed.the-variants.{Named}
 use Rattle.nodes.proofs.Bodies.{body-text}
 use Rattle.forms.specs.Form.{tree, refusal, Move, go, follow, parse, parsed}
+use Rattle.forms.proofs.Scanning.{parse-more, parse-full}
 use Rattle.nodes.proofs.Numbers.{Small, two-small, four-small}
-use Rattle.postfix.proofs.Parsing.{node, parse-more, parse-full, Went, Became, put, node-went}
+use Rattle.postfix.proofs.Parsing.{node, Went, Became, put, node-went}
 use Rattle.quoting.specs.Quote.{hasHigh}
 use Rattle.printing.specs.Print.{isUnprintable, textsStop}
 use Rattle.printing.specs.Prepare.{TextInside}

@@ -1,2 +1,3 @@
 -- What the proofs of several functions use, here and above.
 pub mod Walking
+pub mod Unique

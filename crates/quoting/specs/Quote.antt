@@ -27,6 +27,7 @@ escaped b =
     (cond (eqb b 13) (92 ∷ 114 ∷ [])
     (cond (isControl b) (92 ∷ 117 ∷ 123 ∷ (hex b ++ (125 ∷ []))) (b ∷ [])))))))
 
+-- each byte of a text escaped
 unfoldable pub escapedAll : List ℕ → List ℕ
 escapedAll [] = []
 escapedAll (b ∷ bytes) = escaped b ++ escapedAll bytes

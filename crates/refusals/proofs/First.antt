@@ -39,6 +39,15 @@ pub in-a-row : (a b c : Stop) → orElse (orElse a b) c ≡ orElse a (orElse b c
 in-a-row never b c = refl
 in-a-row (stop n p) b c = refl
 
+-- four and what follows them
+pub four-in-a-row : (a b c d later : Stop) → orElse (orElse a (orElse b (orElse c d))) later ≡ orElse a (orElse b (orElse c (orElse d later)))
+four-in-a-row a b c d later =
+    in-a-row a (orElse b (orElse c d)) later ∙ ap (orElse a) (in-a-row b (orElse c d) later ∙ ap (orElse b) (in-a-row c d later))
+
+-- the last of four, after the other three
+pub last-of-four : (a b c d : Stop) → orElse a (orElse b (orElse c (orElse d never))) ≡ orElse (orElse a (orElse b (orElse c never))) d
+last-of-four a b c d = ap (λ x. orElse a (orElse b (orElse c x))) (nothing-behind d) ∙ sym (four-in-a-row a b c never d)
+
 -- a test that stops nothing fails
 pub not-stopped : (b : Bool) (number place : ℕ) → stopIf b number place ≡ never → b ≡ false
 not-stopped true number place e = absurd (let z : _≡_ {A = ℕ} 0 1 = cc in omega arith)

@@ -31,6 +31,7 @@ abbrev pub orElse : Stop → Stop → Stop
 orElse never later = later
 orElse (stop number place) later = stop number place
 
+-- the first of several that stops
 abbrev pub firstOf : List Stop → Stop
 firstOf [] = never
 firstOf (s ∷ ss) = orElse s (firstOf ss)

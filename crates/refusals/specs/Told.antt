@@ -19,6 +19,7 @@ use Rattle.refusals.specs.declared.Refusal.the-variants.{
   NotPrintable,
 }
 
+-- what a refusal tells
 pub record Told : Type 0 where
   pub number : ℕ
   pub place : ℕ

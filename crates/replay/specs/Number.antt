@@ -5,9 +5,11 @@ use mathlib.Core.List.{List}
 use lib.ListN.{getD}
 use Rattle.replay.specs.declared.Expected.{Expected}
 
+-- four bytes of a case as a number, the lowest first
 abbrev pub fourAt : List ℕ → ℕ → ℕ
 fourAt case at = getD case at 0 + getD case (at + 1) 0 * 256 + (getD case (at + 2) 0 + getD case (at + 3) 0 * 256) * 65536
 
+-- eight bytes likewise
 abbrev pub eightAt : List ℕ → ℕ → ℕ
 eightAt case at = fourAt case at + fourAt case (at + 4) * 2 ^ 32
 

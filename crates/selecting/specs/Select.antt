@@ -20,6 +20,7 @@ use Rattle.checks.specs.Check.{shortStop}
 abbrev pub selected : Test → List ℕ → List ℕ → List ℕ → List ℕ
 selected t columns rows list = wordsOf (λ i. projected list (part rows (columnCount columns) i)) (trueRows t (rowCount columns rows))
 
+-- all that stops `select`, in document 01's order
 abbrev pub selectStop : Test → List ℕ → List ℕ → List ℕ → List ℕ → ℕ → ℕ → ℕ → Stop
 selectStop t b columns rows list size used output =
     firstOf
@@ -41,6 +42,7 @@ SelectIs R columns rows list b stored size used before after answer =
 abbrev pub remaining : Test → List ℕ → List ℕ → List ℕ
 remaining t columns rows = wordsOf (part rows (columnCount columns)) (otherRows t (rowCount columns rows))
 
+-- all that stops `delete`, in document 01's order
 abbrev pub deleteStop : Test → List ℕ → List ℕ → List ℕ → ℕ → ℕ → ℕ → Stop
 deleteStop t b columns rows size used output =
     firstOf

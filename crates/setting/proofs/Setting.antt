@@ -6,14 +6,14 @@ use Prim.Native.Nat.{ℕ, suc, _+_, _*_, _/_, _≤_, _<_}
 use native.Mathlib.Omega.{arith}
 use native.Mathlib.Numerals.{add-one}
 use lib.ListN.{length, drop, set, getD, length-drop, length-set}
-use lib.Seq.{drop-cons}
 use lib.Dec.{leb}
 use borrow.Author.Tests.{le-leb, lt-leb, leb-false}
-use Rattle.refusals.specs.Stop.{Stop, never, stop, stopIf, checkedOf, orElse}
+use Rattle.slices.proofs.Pieces.{pair-drop}
+use Rattle.refusals.specs.Stop.{never, stop, stopIf, checkedOf, orElse}
 use Rattle.refusals.specs.declared.Refusal.{Refusal}
 use Rattle.refusals.specs.declared.Checked.{Checked}
 use Rattle.refusals.specs.declared.Checked.the-variants.{Sound, Refused}
-use Rattle.refusals.proofs.First.{refused-first, told-sound, never-both}
+use Rattle.refusals.proofs.First.{refused-first, told-sound, never-both, last-of-four}
 use Rattle.cells.specs.Cell.{cellStop, refOf, Inside}
 use Rattle.cells.specs.declared.ValueRef.{ValueRef}
 use Rattle.cells.proofs.Stops.{well-formed, well-inside}
@@ -56,24 +56,9 @@ module _ (used : ℕ) (stored columns : List ℕ) (index c cell : ℕ) where
 
 -- ---- a turn and the end of a loop over the sets
 
--- a set's two words, then the rest
-pair : (sets : List ℕ) (k : ℕ) → k < length sets / 2 → drop (2 * k) sets ≡ getD sets (2 * k) 0 ∷ getD sets (2 * k + 1) 0 ∷ drop (2 * (k + 1)) sets
-pair sets k h =
-    let e : suc (suc (2 * k)) ≡ 2 * (k + 1) = omega arith in
-    let f : suc (2 * k) ≡ 2 * k + 1 = omega arith in
-    drop-cons sets (2 * k) 0 (omega arith) ∙ ap (λ x. getD sets (2 * k) 0 ∷ x) (drop-cons sets (suc (2 * k)) 0 (omega arith) ∙ (rw (e, f)))
-
 -- fewer than two words are left
 few-left : (sets : List ℕ) (k : ℕ) → length sets / 2 ≤ k → length (drop (2 * k) sets) ≤ 1
 few-left sets k h = rw length-drop (omega arith)
-
--- four stops in a row, the first three as one
-grouped : (a b c d : Stop) → orElse a (orElse b (orElse c (orElse d never))) ≡ orElse (orElse a (orElse b (orElse c never))) d
-grouped (stop n p) b c d = refl
-grouped never (stop n p) c d = refl
-grouped never never (stop n p) d = refl
-grouped never never never (stop n p) = refl
-grouped never never never never = refl
 
 module _ (used : ℕ) (stored columns : List ℕ) where
   -- the first of the sets, then the others
@@ -81,14 +66,14 @@ module _ (used : ℕ) (stored columns : List ℕ) where
       → setsStop used stored columns k (c ∷ cell ∷ sets) ≡ orElse (setStop used stored columns k c cell) (setsStop used stored columns (suc k) sets)
   unfolding setsStop setStop
   one-first k c cell sets =
-      grouped (stopIf (leb (columnCount columns) c) 4 k) (cellStop used cell k)
+      last-of-four (stopIf (leb (columnCount columns) c) 4 k) (cellStop used cell k)
       (stopIf (not (isValidValue (getD columns (2 * c + 1) 0) (valueOf stored cell))) 13 k) (setsStop used stored columns (suc k) sets)
 
   -- the set that a turn looks at, then those that are left
   pub sets-turn : (sets : List ℕ) (k : ℕ) → k < length sets / 2
       → setsStop used stored columns k (drop (2 * k) sets)
       ≡ orElse (setStop used stored columns k (getD sets (2 * k) 0) (getD sets (2 * k + 1) 0)) (setsStop used stored columns (k + 1) (drop (2 * (k + 1)) sets))
-  sets-turn sets k h = ap (setsStop used stored columns k) (pair sets k h) ∙ one-first k _ _ _ ∙ rw (add-one k)
+  sets-turn sets k h = ap (setsStop used stored columns k) (pair-drop sets k h) ∙ one-first k _ _ _ ∙ rw (add-one k)
 
   -- where no set is left, none is refused
   few : (k : ℕ) (l : List ℕ) → length l ≤ 1 → setsStop used stored columns k l ≡ never
@@ -140,7 +125,7 @@ module _ {sets start row : List ℕ} {k : ℕ} (A : Applying sets start row k) w
     -- the column that a turn sets is there, and those that are left are
     here : (getD sets (2 * k) 0 < length start) × Within (length start) (drop (2 * (k + 1)) sets)
     unfolding Within
-    here = subst (Within (length start)) (pair sets k h) (A .within)
+    here = subst (Within (length start)) (pair-drop sets k h) (A .within)
 
     pub applying-inside : getD sets (2 * k) 0 < length row
     applying-inside = omega (arith, here .0, A .long)
@@ -148,7 +133,7 @@ module _ {sets start row : List ℕ} {k : ℕ} (A : Applying sets start row k) w
     -- one more applied
     pub applying-turn : Applying sets start (set row (getD sets (2 * k) 0) (getD sets (2 * k + 1) 0)) (k + 1)
     unfolding applied
-    applying-turn = record { long = length-set row _ _ ∙ A .long; within = here .1; list = sym (ap (λ s. applied s row) (pair sets k h)) ∙ A .list }
+    applying-turn = record { long = length-set row _ _ ∙ A .long; within = here .1; list = sym (ap (λ s. applied s row) (pair-drop sets k h)) ∙ A .list }
 
   -- where no set is left, the row is the result
   alone : (l : List ℕ) → length l ≤ 1 → applied l row ≡ row

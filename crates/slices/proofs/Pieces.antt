@@ -1,11 +1,11 @@
 -- Laws of a part of a list. Assumes nothing.
 use mathlib.Core.Path.{_≡_, refl, sym, ap, _∙_}
 use mathlib.Core.List.{List, [], _∷_}
-use Prim.Native.Nat.{ℕ, zero, suc, _+_, _-_, _≤_}
+use Prim.Native.Nat.{ℕ, zero, suc, _+_, _-_, _*_, _/_, _≤_, _<_}
 use native.Mathlib.Nat.{sub-zero, zero-sub, suc-sub-suc}
 use native.Mathlib.Omega.{arith}
-use lib.ListN.{length, take, drop, length-take, length-drop}
-use lib.Seq.{take-take, take-nil}
+use lib.ListN.{length, take, drop, getD, length-take, length-drop}
+use lib.Seq.{drop-cons, take-take, take-nil}
 use Rattle.slices.specs.Splice.{piece}
 
 module _ {A : Type 0} where
@@ -33,3 +33,10 @@ pub take-own : (n : ℕ) (l : List ℕ) → take (length (take n l)) l ≡ take 
 take-own zero l = refl
 take-own (suc n) [] = refl
 take-own (suc n) (x ∷ l) = ap (λ y. x ∷ y) (take-own n l)
+
+-- of words two by two: the two at an index, then the rest
+pub pair-drop : (l : List ℕ) (i : ℕ) → i < length l / 2 → drop (2 * i) l ≡ getD l (2 * i) 0 ∷ getD l (2 * i + 1) 0 ∷ drop (2 * (i + 1)) l
+pair-drop l i h =
+    let e : suc (suc (2 * i)) ≡ 2 * (i + 1) = omega arith in
+    let f : suc (2 * i) ≡ 2 * i + 1 = omega arith in
+    drop-cons l (2 * i) 0 (omega arith) ∙ ap (λ x. getD l (2 * i) 0 ∷ x) (drop-cons l (suc (2 * i)) 0 (omega arith) ∙ rw (e, f))

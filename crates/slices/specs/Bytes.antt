@@ -31,7 +31,19 @@ sameBytes [] (b ∷ t) = false
 sameBytes (a ∷ s) [] = false
 sameBytes (a ∷ s) (b ∷ t) = both (eqb a b) (sameBytes s t)
 
--- the test that an order is Equal
+-- the test that an order is Less
+abbrev pub isLess : Ordering → Bool
+isLess Less = true
+isLess Equal = false
+isLess Greater = false
+
+-- that it is Greater
+abbrev pub isGreater : Ordering → Bool
+isGreater Less = false
+isGreater Equal = false
+isGreater Greater = true
+
+-- that it is Equal
 abbrev pub isEqual : Ordering → Bool
 isEqual Less = false
 isEqual Equal = true

@@ -8,10 +8,11 @@ use native.Mathlib.Omega.{arith}
 use Rattle.refusals.specs.Stop.{never, stopIf, orElse}
 use Rattle.refusals.proofs.First.{never-both, not-stopped}
 use Rattle.refusals.proofs.Bools.{true-false}
+use Rattle.slices.specs.Bytes.{isLess, isEqual}
 use Rattle.slices.specs.declared.Ordering.{Ordering}
 use Rattle.slices.specs.declared.Ordering.the-variants.{Less, Equal}
 use Rattle.values.proofs.Ordered.{not-less}
-use Rattle.sorting.specs.Sorted.{Compare, isLess, isEqual, ascends, keyAmong, doubleStop, newStop}
+use Rattle.sorting.specs.Sorted.{Compare, ascends, keyAmong, doubleStop, newStop}
 use Rattle.sorting.proofs.Lawful.{Lawful, less-true, equal-false, equal-true}
 
 -- of n rows no two have one key

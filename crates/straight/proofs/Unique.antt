@@ -1,57 +1,33 @@
 -- Two words that are told of one question are the same. Assumes nothing.
-use mathlib.Core.Path.{_≡_, refl, sym, ap, _∙_}
-use mathlib.Core.Bool.{Bool, true, false}
+use mathlib.Core.Path.{_≡_, sym, ap, _∙_}
 use mathlib.Core.List.{List}
 use Prim.Native.Nat.{ℕ}
-use native.Mathlib.Omega.{arith}
 use lib.ListN.{length, take}
-use lib.Dec.{eqb}
-use borrow.Author.Tests.{eqb-true, eqb-false}
-use Rattle.slices.specs.Bytes.{isEqual}
-use Rattle.cells.specs.Cell.{isCell}
 use Rattle.cells.proofs.Stops.{never-stops}
-use Rattle.values.specs.Value.{Value, null, valueOf}
-use Rattle.values.specs.Order.{order}
-use Rattle.values.proofs.Ordered.{order-self}
-use Rattle.values.proofs.ByWord.{left-no-text}
-use Rattle.integers.specs.Outcome.{Outcome, value}
-use Rattle.conditions.specs.Ast.{Tree, leaf, mapTree, eval}
+use Rattle.values.specs.Value.{valueOf}
+use Rattle.values.proofs.ByWord.{not-str, one-word as cell-word}
+use Rattle.integers.specs.Outcome.{Outcome}
+use Rattle.integers.proofs.Unique.{one-value}
+use Rattle.conditions.specs.Ast.{Tree, mapTree, eval}
 use Rattle.conditions.specs.Table.{leafOf, rowOf}
-use Rattle.forms.specs.Form.{Parsed}
+use Rattle.forms.proofs.Unique.{one-tree}
 use Rattle.straight.specs.Straight.{Ran, Straight}
 
--- the tree that was read, and the value that an outcome gives
-treeIn : Parsed → Tree ℕ
-treeIn (Parsed.tree t) = t
-treeIn (Parsed.refusal number place) = leaf 0
-
-given : Outcome → Value
-given (value v) = v
-given (Outcome.refused number) = null
-
 module _ (b row stored : List ℕ) (w w′ : ℕ) where
+  -- what a tree comes to on the row
   abbrev meaning : Tree ℕ → Outcome
   meaning t = eval (record { limit = 0 }) (rowOf stored row) (mapTree (leafOf stored) t)
 
-  one-value : Ran b row stored w → Ran b row stored w′ → valueOf stored w ≡ valueOf stored w′
-  unfolding treeIn given
-  one-value h k =
-      let t : h .tree ≡ k .tree = ap treeIn (sym (h .form) ∙ k .form) in
-      ap given (sym (h .means (record { limit = 0 })) ∙ ap meaning t ∙ k .means (record { limit = 0 }))
+  -- both words mean it
+  same-value : Ran b row stored w → Ran b row stored w′ → valueOf stored w ≡ valueOf stored w′
+  same-value h k =
+      let t : h .tree ≡ k .tree = one-tree (sym (h .form) ∙ k .form) in
+      one-value (sym (h .means (record { limit = 0 })) ∙ ap meaning t ∙ k .means (record { limit = 0 }))
 
   -- no text is told, and any other value has one word
   one-cell : Ran b row stored w → Ran b row stored w′ → w ≡ w′
-  one-cell h k = go (eqb w w′) refl
-    where
-      cells : (isCell w ≡ true) × (isCell w′ ≡ true)
-      cells = (never-stops (length stored) w 0 (h .fine) .0, never-stops (length stored) w′ 0 (k .fine) .0)
-
-      go : (c : Bool) → eqb w w′ ≡ c → w ≡ w′
-      go true e = eqb-true w w′ e
-      go false e =
-          absurd (let z : false ≡ true = left-no-text stored w w′ (cells .0) (cells .1) (eqb-false w w′ e) (h .plain)
-          ∙ ap isEqual (ap (λ v. order v (valueOf stored w′)) (one-value h k) ∙ order-self (valueOf stored w′)) in
-          let y : _≡_ {A = ℕ} 0 1 = cc in omega arith)
+  one-cell h k =
+      cell-word stored stored w w′ (never-stops (length stored) w 0 (h .fine) .0) (never-stops (length stored) w′ 0 (k .fine) .0) (not-str w (h .plain)) (same-value h k)
 
 -- whether a word is told is left open (docs/EXCEPTIONS.md)
 pub one-word : (b row text : List ℕ) (used w w′ : ℕ) → Straight b row text used w → Straight b row text used w′ → w ≡ w′

@@ -39,6 +39,7 @@ unfoldable pub columnWordsStop : ℕ → ℕ → List (List ℕ) → Stop
 columnWordsStop used place [] = never
 columnWordsStop used place (columns ∷ tables) = orElse (columnsStop used place columns) (columnWordsStop used (place + length columns) tables)
 
+-- then the words of cells, counted through likewise
 unfoldable pub cellWordsStop : ℕ → ℕ → List (List ℕ) → Stop
 cellWordsStop used place [] = never
 cellWordsStop used place (cells ∷ parts) = orElse (cellsStop used place cells) (cellWordsStop used (place + length cells) parts)

@@ -33,6 +33,7 @@ abbrev pub testedOf : Outcome → Tested
 testedOf (value v) = is (toBool v)
 testedOf (Outcome.refused number) = refuses number
 
+-- of a condition that is one: its tree's truth; of any other its refusal
 abbrev pub ofTree : (Tree ℕ → Outcome) → Parsed → Tested
 ofTree f (tree t) = testedOf (f t)
 ofTree f (refusal number place) = refuses number

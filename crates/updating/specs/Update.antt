@@ -21,6 +21,7 @@ updated t columns rows sets =
     wordsOf (λ i. cond (isTrue (t i)) (applied sets (part rows (columnCount columns) i)) (part rows (columnCount columns) i))
     (keptFrom (λ i. true) 0 (rowCount columns rows))
 
+-- all that stops `update`, in document 01's order
 abbrev pub updateStop : Test → List ℕ → List ℕ → List ℕ → List ℕ → List ℕ → ℕ → ℕ → ℕ → Stop
 updateStop t b columns rows sets stored size used output =
     firstOf

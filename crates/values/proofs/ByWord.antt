@@ -45,13 +45,15 @@ strs-equal t a b r e f g = rw (value-str t a e, value-str t b f) (g ∙ same-ord
 
 -- ---- different words
 
+-- a text
 abbrev pub isStr : ValueRef → Bool
 isStr Null = false
 isStr (Int z) = false
 isStr (Str s n) = true
 isStr Binary = false
 
-not-str : (w : ℕ) → (kindOf w ≡ 2 → ⊥) → isStr (refOf w) ≡ false
+-- a word of another kind is no text's
+pub not-str : (w : ℕ) → (kindOf w ≡ 2 → ⊥) → isStr (refOf w) ≡ false
 not-str w n = go (eqb (kindOf w) 1) (eqb (kindOf w) 3) refl refl
   where
     go : (i b : Bool) → eqb (kindOf w) 1 ≡ i → eqb (kindOf w) 3 ≡ b → isStr (refOf w) ≡ false
@@ -59,24 +61,26 @@ not-str w n = go (eqb (kindOf w) 1) (eqb (kindOf w) 3) refl refl
     go false true e f = rw (ref-binary w (eqb-true (kindOf w) 3 f))
     go false false e f = rw (ref-null w (eqb-false (kindOf w) 1 e) n (eqb-false (kindOf w) 3 f))
 
-pub one-ref : (t : List ℕ) (r s : ValueRef) → isStr r ≡ false → toValue t r ≡ toValue t s → r ≡ s
+-- two cells that mean the same, each in its text: where it is no text, they are one cell
+pub one-ref : (x y : List ℕ) (r s : ValueRef) → isStr r ≡ false → toValue x r ≡ toValue y s → r ≡ s
 unfolding toValue
-one-ref t Null Null h e = refl
-one-ref t Null (Int y) h e = absurd (let z : _≡_ {A = ℕ} 0 1 = cc in omega arith)
-one-ref t Null (Str p m) h e = absurd (let z : _≡_ {A = ℕ} 0 1 = cc in omega arith)
-one-ref t Null Binary h e = absurd (let z : _≡_ {A = ℕ} 0 1 = cc in omega arith)
-one-ref t (Int x) Null h e = absurd (let z : _≡_ {A = ℕ} 0 1 = cc in omega arith)
-one-ref t (Int x) (Int y) h e = cc
-one-ref t (Int x) (Str p m) h e = absurd (let z : _≡_ {A = ℕ} 0 1 = cc in omega arith)
-one-ref t (Int x) Binary h e = absurd (let z : _≡_ {A = ℕ} 0 1 = cc in omega arith)
-one-ref t (Str s n) r h e = absurd (let z : _≡_ {A = ℕ} 0 1 = cc in omega arith)
-one-ref t Binary Null h e = absurd (let z : _≡_ {A = ℕ} 0 1 = cc in omega arith)
-one-ref t Binary (Int y) h e = absurd (let z : _≡_ {A = ℕ} 0 1 = cc in omega arith)
-one-ref t Binary (Str p m) h e = absurd (let z : _≡_ {A = ℕ} 0 1 = cc in omega arith)
-one-ref t Binary Binary h e = refl
+one-ref x y Null Null h e = refl
+one-ref x y Null (Int k) h e = absurd (let z : _≡_ {A = ℕ} 0 1 = cc in omega arith)
+one-ref x y Null (Str p m) h e = absurd (let z : _≡_ {A = ℕ} 0 1 = cc in omega arith)
+one-ref x y Null Binary h e = absurd (let z : _≡_ {A = ℕ} 0 1 = cc in omega arith)
+one-ref x y (Int m) Null h e = absurd (let z : _≡_ {A = ℕ} 0 1 = cc in omega arith)
+one-ref x y (Int m) (Int k) h e = cc
+one-ref x y (Int m) (Str p n) h e = absurd (let z : _≡_ {A = ℕ} 0 1 = cc in omega arith)
+one-ref x y (Int m) Binary h e = absurd (let z : _≡_ {A = ℕ} 0 1 = cc in omega arith)
+one-ref x y (Str s n) r h e = absurd (let z : _≡_ {A = ℕ} 0 1 = cc in omega arith)
+one-ref x y Binary Null h e = absurd (let z : _≡_ {A = ℕ} 0 1 = cc in omega arith)
+one-ref x y Binary (Int k) h e = absurd (let z : _≡_ {A = ℕ} 0 1 = cc in omega arith)
+one-ref x y Binary (Str p m) h e = absurd (let z : _≡_ {A = ℕ} 0 1 = cc in omega arith)
+one-ref x y Binary Binary h e = refl
 
-one-word : (t : List ℕ) (a b : ℕ) → isCell a ≡ true → isCell b ≡ true → (kindOf a ≡ 2 → ⊥) → valueOf t a ≡ valueOf t b → a ≡ b
-one-word t a b h k n e = sym (word-back a h) ∙ ap wordOf (one-ref t (refOf a) (refOf b) (not-str a n) e) ∙ word-back b k
+-- and one word
+pub one-word : (x y : List ℕ) (a b : ℕ) → isCell a ≡ true → isCell b ≡ true → isStr (refOf a) ≡ false → valueOf x a ≡ valueOf y b → a ≡ b
+one-word x y a b h k n e = sym (word-back a h) ∙ ap wordOf (one-ref x y (refOf a) (refOf b) n e) ∙ word-back b k
 
 module _ (t : List ℕ) (a b : ℕ) (h : isCell a ≡ true) (k : isCell b ≡ true) (d : a ≡ b → ⊥) where
   unequal : (valueOf t a ≡ valueOf t b → ⊥) → false ≡ isEqual (order (valueOf t a) (valueOf t b))
@@ -88,7 +92,7 @@ module _ (t : List ℕ) (a b : ℕ) (h : isCell a ≡ true) (k : isCell b ≡ tr
       go Greater e = refl
 
   pub left-no-text : (kindOf a ≡ 2 → ⊥) → false ≡ isEqual (order (valueOf t a) (valueOf t b))
-  left-no-text n = unequal (λ e. d (one-word t a b h k n e))
+  left-no-text n = unequal (λ e. d (one-word t t a b h k (not-str a n) e))
 
   pub right-no-text : (kindOf b ≡ 2 → ⊥) → false ≡ isEqual (order (valueOf t a) (valueOf t b))
-  right-no-text n = unequal (λ e. d (sym (one-word t b a k h n (sym e))))
+  right-no-text n = unequal (λ e. d (sym (one-word t t b a k h (not-str b n) (sym e))))

@@ -1,12 +1,12 @@
 -- Laws of the order of values: equal means same kind and content. Assumes nothing.
-use mathlib.Core.Path.{_≡_, refl, ap}
+use mathlib.Core.Path.{_≡_, refl, sym, ap}
 use mathlib.Core.Bool.{Bool, true, false}
 use Prim.Native.Nat.{ℕ}
 use native.Mathlib.Omega.{arith}
 use native.Mathlib.Nat.{le-antisymm}
 use lib.IntN.{ℤ, pos, negsuc}
 use lib.Signed.{ltZ}
-use borrow.Author.Tests.{le-ltb, ltb-false}
+use borrow.Author.Tests.{le-ltb, ltb-true, ltb-false}
 use mir.Syntax.{w32}
 use mir.Val.{SFits, ofZ, toZ}
 use mir.Facts.{toZ-ofZ}
@@ -16,6 +16,15 @@ use Rattle.slices.proofs.Bytes.{bytes-self, bytes-equal}
 use Rattle.slices.specs.declared.Ordering.the-variants.{Less, Equal, Greater}
 use Rattle.values.specs.Value.{Value, null, int, str, binary}
 use Rattle.values.specs.Order.{byInts, order}
+
+-- ---- Ints
+
+-- the test holds one way
+pub ints-one-way : (x y : ℤ) → ltZ x y ≡ true → ltZ y x ≡ false
+ints-one-way (pos a) (pos b) e = le-ltb b a (omega (arith, ltb-true a b e))
+ints-one-way (pos a) (negsuc b) e = sym e
+ints-one-way (negsuc a) (pos b) e = refl
+ints-one-way (negsuc a) (negsuc b) e = le-ltb a b (omega (arith, ltb-true b a e))
 
 -- ---- Ints as the code has them
 

@@ -27,4 +27,4 @@ no-text b Binary e = refl
 
 -- from_bool
 pub one-flag : (b : Bool) (r s : ValueRef) → ((t : List ℕ) → toValue t r ≡ fromBool b) → ((t : List ℕ) → toValue t s ≡ fromBool b) → r ≡ s
-one-flag b r s f g = one-ref [] r s (no-text b r (f [])) (f [] ∙ sym (g []))
+one-flag b r s f g = one-ref [] [] r s (no-text b r (f [])) (f [] ∙ sym (g []))

@@ -26,11 +26,13 @@ toValue stored Binary = binary
 abbrev pub valueOf : List ℕ → ℕ → Value
 valueOf stored word = toValue stored (refOf word)
 
+-- an Int that counts as true
 abbrev pub nonzero : ℤ → Bool
 nonzero (pos zero) = false
 nonzero (pos (suc n)) = true
 nonzero (negsuc n) = true
 
+-- a text that counts as true
 abbrev pub nonempty : List ℕ → Bool
 nonempty [] = false
 nonempty (b ∷ bytes) = true

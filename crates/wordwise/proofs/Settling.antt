@@ -12,18 +12,18 @@ use borrow.Author.Tests.{lt-ltb, le-ltb, ltb-true, ltb-false, ne-eqb, eqb-true, 
 use mir.Syntax.{w32, w64}
 use mir.Val.{SFits, toZ, ofZ}
 use mir.Facts.{ofZ-toZ, toZ-ofZ, sfits-widen, sfits-toZ}
-use Rattle.slices.specs.Bytes.{isEqual}
+use Rattle.slices.specs.Bytes.{isEqual, isLess, isGreater}
 use Rattle.cells.specs.Cell.{WellFormed, kindOf}
 use Rattle.cells.proofs.Stops.{never-stops}
 use Rattle.values.specs.Value.{Value, int, valueOf, toBool, fromBool}
 use Rattle.values.specs.Order.{byInts, order}
 use Rattle.values.proofs.ByWord.{value-int, left-no-text}
-use Rattle.values.proofs.Ordered.{order-self}
+use Rattle.values.proofs.Ordered.{order-self, ints-one-way}
 use Rattle.integers.specs.Outcome.{Outcome, value, gave, placed}
 use Rattle.integers.specs.Integer.{intOf, fitted, onBits, onInts}
 use Rattle.integers.proofs.Placing.{placed-bits}
 use Rattle.integers.proofs.Ranges.{held, held-is, held-op, held-fits, mag-int, int-fits}
-use Rattle.operators.specs.Operator.{isLess, isGreater, holds, compared, binaryOf}
+use Rattle.operators.specs.Operator.{holds, compared, binaryOf}
 use Rattle.operators.specs.declared.Rules.{Rules}
 use Rattle.operators.proofs.ByKind.{binary-compared, binary-ints}
 use Rattle.conditions.specs.Ast.{decides, twoSided}
@@ -65,12 +65,6 @@ module _ (f : ℤ → ℤ → ℤ) (fits : (x y : ℤ) → mag x < 2 ^ 31 → ma
 pub less-held : (a b : ℕ) (x y : ℤ) → x ≡ intOf a → y ≡ intOf b → ltZ (held x) (held y) ≡ ltZ (intOf a) (intOf b)
 less-held a b x y e g = ap₂ (λ u v. ltZ (held u) (held v)) e g ∙ ap₂ ltZ (held-is (intOf a) (int-fits a)) (held-is (intOf b) (int-fits b))
 
-asymmetric : (x y : ℤ) → ltZ x y ≡ true → ltZ y x ≡ false
-asymmetric (pos a) (pos b) e = le-ltb b a (omega (arith, ltb-true a b e))
-asymmetric (pos a) (negsuc b) e = sym e
-asymmetric (negsuc a) (pos b) e = refl
-asymmetric (negsuc a) (negsuc b) e = le-ltb a b (omega (arith, ltb-true b a e))
-
 pub less-is : (x y : ℤ) → ltZ x y ≡ isLess (byInts x y)
 less-is x y = go (ltZ x y) (ltZ y x) refl refl
   where
@@ -83,7 +77,7 @@ pub greater-is : (x y : ℤ) → ltZ y x ≡ isGreater (byInts x y)
 greater-is x y = go (ltZ x y) (ltZ y x) refl refl
   where
     go : (s t : Bool) → ltZ x y ≡ s → ltZ y x ≡ t → ltZ y x ≡ isGreater (byInts x y)
-    go true t e f = rw (e, asymmetric x y e)
+    go true t e f = rw (e, ints-one-way x y e)
     go false true e f = rw (e, f)
     go false false e f = rw (e, f)
 

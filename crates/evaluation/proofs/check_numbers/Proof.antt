@@ -3,7 +3,8 @@ use mathlib.Core.Path.{_≡_, refl, sym, _∙_}
 use Prim.Native.Nat.{ℕ, _+_, _-_, _≤_}
 use lib.ListN.{length}
 use Rattle.forms.specs.Number.{numbersStop}
-use Rattle.forms.proofs.Numbers.{numbers-end, numbers-full, numbers-found, numbers-turn, body-short}
+use Rattle.nodes.proofs.Bodies.{body-short}
+use Rattle.forms.proofs.Numbers.{numbers-end, numbers-full, numbers-found, numbers-turn}
 use native.Mathlib.Omega.{arith}
 use borrow.Author.Needs.{needs}
 use Rattle.evaluation.proofs.check_numbers.Statement.{statement}

@@ -5,7 +5,7 @@ use native.Mathlib.Omega.{arith}
 use native.Mathlib.Nat.{add-sub-cancel-left}
 use Rattle.cells.specs.Cell.{kindOf}
 use Rattle.columns.specs.Column.{foundOf}
-use Rattle.postfix.proofs.Lengths.{body-small}
+use Rattle.nodes.proofs.Bodies.{body-short}
 use Rattle.numbering.specs.Number.{columnOf}
 use Rattle.numbering.proofs.Leaves.{leaf-space, other-binds, name-inside, name-missing, number-small, name-binds}
 use borrow.Author.Needs.{needs}
@@ -23,7 +23,7 @@ body-of-requires : tie.Need-body-of-requires
 body-of-requires c κs = search needs
 
 add-next-2 : tie.Need-add-next-2
-add-next-2 c = omega (arith, c .body-of .ensures, body-small (kindOf (c .before .before .before .before .before .args .word)), c .before .before .before .before .before .pre .early)
+add-next-2 c = omega (arith, c .body-of .ensures, body-short (kindOf (c .before .before .before .before .before .args .word)), c .before .before .before .before .before .pre .early)
 
 write-leaf-requires : tie.Need-write-leaf-requires
 write-leaf-requires c κs = leaf-space (c .before .before .before .before .before .before .pre) _

@@ -4,10 +4,8 @@ use mathlib.Core.Path.{refl, sym, _∙_}
 use Prim.Native.Nat.{ℕ, _<_, _+_, _*_}
 use native.Mathlib.Omega.{arith}
 use borrow.Author.Needs.{needs, scaled-fits}
+use Rattle.conditions.proofs.Nodes.{node-leaf, node-one, node-two}
 use Rattle.quick.proofs.Walking.{
-  node-leaf,
-  node-one,
-  node-two,
   in-table,
   deep,
   leaf-sound,

@@ -5,7 +5,8 @@ use lib.ListN.{length, getD}
 use native.Mathlib.Omega.{arith}
 use borrow.Author.Needs.{scaled-fits}
 use Rattle.conditions.proofs.Leaves.{leaf-node}
-use Rattle.quick.proofs.Walking.{node-leaf, node-two, in-table, leaf-sound, leaf-found, left-below, two-below, left-stands, right-stands, two-found}
+use Rattle.conditions.proofs.Nodes.{node-leaf, node-two}
+use Rattle.quick.proofs.Walking.{in-table, leaf-sound, leaf-found, left-below, two-below, left-stands, right-stands, two-found}
 use Rattle.quick.proofs.shallow.Statement.{statement}
 use Rattle.quick.proofs.shallow.Tie as tie
 
