@@ -248,10 +248,18 @@ fn run_column_call(call: &Call, lent: &mut Lent) -> Result<Outcome, Refusal> {
     Ok(Outcome { value: written.count as u64, used: written.used, written: written.count })
 }
 
+/// The tables of a join: first the left one's columns and rows, then the right one's.
+fn join_of<'a>(words: &[&'a [u64]], condition: &'a [u8]) -> model::Join<'a> {
+    let [left_columns, left_rows, right_columns, right_rows, ..] = words[..] else {
+        unreachable!()
+    };
+    model::Join { left_columns, left_rows, right_columns, right_rows, condition }
+}
+
 /// Columns, rows and select in turn, each on what the one before left.
 fn run_nested_call(call: &Call, lent: &mut Lent) -> Result<Outcome, Refusal> {
     let (names, words) = (call.byte_inputs(), call.word_inputs());
-    let [left, left_rows, right, right_rows, list] = words[..] else { unreachable!() };
+    let [left, _, right, _, list] = words[..] else { unreachable!() };
     let joined_columns = match call.number {
         SELECT_INNER_JOIN => model::inner_join_columns,
         _ => model::left_join_columns,
@@ -263,7 +271,7 @@ fn run_nested_call(call: &Call, lent: &mut Lent) -> Result<Outcome, Refusal> {
     let (text, mut columns, mut rows) = (&mut lent.text, vec![0; 64], vec![0; JOINED_WORDS]);
     let head = joined_columns(names[0], left, names[1], right, text, lent.used, &mut columns)?;
     let used = head.used;
-    let count = join(left, left_rows, right, right_rows, names[2], text, used, &mut rows)?;
+    let count = join(&join_of(&words, names[2]), text, used, &mut rows)?;
     let width = head.count / 2;
     let (columns, rows) = (&columns[..head.count], &rows[..count * width]);
     let count = model::select(columns, rows, list, names[3], text, used, &mut lent.words_out)?;
@@ -294,7 +302,7 @@ fn run_row_call(call: &Call, lent: &mut Lent) -> Result<Outcome, Refusal> {
                 INNER_JOIN => model::inner_join,
                 _ => model::left_join,
             };
-            let rows = join(words[0], words[1], words[2], words[3], condition, text, used, output)?;
+            let rows = join(&join_of(&words, condition), text, used, output)?;
             (rows, columns + words[2].len() / 2)
         }
     };

@@ -175,19 +175,21 @@ impl Call {
     }
 
     pub fn byte_inputs(&self) -> Vec<&[u8]> {
-        let bytes = |input| match input {
-            &Input::Bytes(ref bytes) => Some(&bytes[..]),
+        let inputs = self.inputs.iter();
+        let bytes = inputs.filter_map(|input| match input {
+            Input::Bytes(bytes) => Some(&bytes[..]),
             _ => None,
-        };
-        self.inputs.iter().filter_map(bytes).collect()
+        });
+        bytes.collect()
     }
 
     pub fn word_inputs(&self) -> Vec<&[u64]> {
-        let words = |input| match input {
-            &Input::Words(ref words) => Some(&words[..]),
+        let inputs = self.inputs.iter();
+        let words = inputs.filter_map(|input| match input {
+            Input::Words(words) => Some(&words[..]),
             _ => None,
-        };
-        self.inputs.iter().filter_map(words).collect()
+        });
+        words.collect()
     }
 
     pub fn number_inputs(&self) -> Vec<u64> {

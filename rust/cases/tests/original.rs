@@ -8,6 +8,7 @@ use cases::original::originals;
 use cases::random::Random;
 use cases::sample::answered;
 use cases::seen::{agrees, Seen, Value};
+use std::slice::from_ref;
 
 const INT: u64 = 1 << 56;
 const TEXT: u64 = 2 << 56;
@@ -42,7 +43,7 @@ fn places_are_compared() {
     let call = Call::new(FOLD).bytes([&[4, 9][..], &OVERFLOW, &[48]].concat());
     let call = call.text(text(b"")).bytes_out(448);
     let expected = Seen::Refused { number: 5, place: Some(12) };
-    assert_eq!(originals()[1].answers(&call), [expected.clone()]);
+    assert_eq!(originals()[1].answers(&call), from_ref(&expected));
     let mut answer = model_answer(&call).unwrap();
     assert!(agrees(&call, &answer, &expected));
     answer.place = 11;
@@ -163,8 +164,8 @@ fn rows_of_equal_content_are_told_apart() {
     let call = call.text(text(b"aa")).words_out(2);
     let mut answer = model_answer(&call).unwrap();
     let agree = |answer: &Answer| {
-        let seconds = originals().into_iter().flat_map(|original| original.answers(&call));
-        seconds.map(|second| agrees(&call, answer, &second)).all(|agreed| agreed)
+        let mut seconds = originals().into_iter().flat_map(|original| original.answers(&call));
+        seconds.all(|second| agrees(&call, answer, &second))
     };
     assert!(agree(&answer));
     answer.output.reverse();

@@ -59,15 +59,15 @@ fn cases_store_only_what_lies_below_the_mark() {
 fn any_input(random: &mut Random, kind: Kind) -> Input {
     let length = random.below(12);
     let word = |random: &mut Random| match random.below(4) {
-        0 => random.next(),
+        0 => random.word(),
         1 => random.below(4) as u64,
-        _ => (random.below(5) as u64) << 56 | random.next() >> random.between(30, 63),
+        _ => (random.below(5) as u64) << 56 | random.word() >> random.between(30, 63),
     };
     match kind {
         Kind::Bytes => {
             let kinds = [0, 1, 2, 3, 4, 16, 17, 18, 32, 38, 41, 45, 48, 49];
             let byte = |random: &mut Random| match random.below(3) {
-                0 => random.next() as u8,
+                0 => random.word() as u8,
                 _ => random.pick(&kinds),
             };
             Input::Bytes((0..length).map(|_| byte(random)).collect())

@@ -1,6 +1,6 @@
 //! What the library answers and leaves behind, held to the model's answer.
 
-use crate::image::{Image, Sharing};
+use crate::image::{words_in, Image, Sharing};
 use crate::library::{Answered, Library};
 use crate::rubbish::Rubbish;
 use cases::answer::{may_write_text, Answer};
@@ -63,8 +63,7 @@ pub fn observed(
     let mut lent = Image::of(call, rubbish, Sharing::Apart);
     let answered =
         library.ask(call.number, &lent.arguments, &mut lent.memory).map_err(Fault::Gone)?;
-    let word = |bytes: &[u8]| bytes.iter().rev().fold(0, |word, &byte| word << 8 | byte as u64);
-    Ok((answered, lent.memory[lent.output].chunks_exact(8).map(word).collect()))
+    Ok((answered, words_in(&lent.memory[lent.output])))
 }
 
 /// True where the answer is a text that `+` computed, whose start is open.

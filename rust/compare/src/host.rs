@@ -1,7 +1,7 @@
 //! The archive, in a process of its own that `rust/host/host.c` describes.
 
-use crate::image::Argument;
-use crate::library::{Answered, Library, ARGUMENTS};
+use crate::image::{words_in, Argument};
+use crate::library::{numbers, Answered, Asked, Library, ARGUMENTS};
 use std::fs::File;
 use std::io::{self, Read, Write};
 use std::os::unix::fs::FileExt;
@@ -85,9 +85,7 @@ fn read_words<const N: usize>(from: &mut impl Read) -> io::Result<[u64; N]> {
     let mut bytes = vec![0; 8 * N];
     from.read_exact(&mut bytes)?;
     let mut words = [0; N];
-    for (word, part) in words.iter_mut().zip(bytes.chunks_exact(8)) {
-        *word = part.iter().rev().fold(0, |word, &byte| word << 8 | byte as u64);
-    }
+    words.copy_from_slice(&words_in(&bytes));
     Ok(words)
 }
 
@@ -96,21 +94,10 @@ impl Library for Host {
         self.has >> call & 1 == 1
     }
 
-    fn ask(
-        &mut self,
-        call: u8,
-        arguments: &[Argument],
-        memory: &mut [u8],
-    ) -> Result<Answered, String> {
-        let value = |argument: &Argument| match *argument {
-            Argument::Place(at) => self.base + at as u64,
-            Argument::Number(number) => number,
-        };
+    fn ask(&mut self, call: u8, arguments: &[Argument], memory: &mut [u8]) -> Asked {
         let mut request = [0; ARGUMENTS + 1];
         request[0] = call as u64;
-        for (place, argument) in request[1..].iter_mut().zip(arguments) {
-            *place = value(argument);
-        }
+        request[1..].copy_from_slice(&numbers(arguments, self.base));
         self.exchange(&request, memory).map_err(|error| {
             let end = self.process.wait().map_or("?".into(), |status| status.to_string());
             format!("{error}; the host ended: {end}")

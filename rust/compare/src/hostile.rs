@@ -79,7 +79,7 @@ fn wild_length(random: &mut Random) -> usize {
 
 fn wild_number(random: &mut Random) -> u64 {
     match random.below(4) {
-        0 => random.next(),
+        0 => random.word(),
         1 => random.pick(&[u64::MAX, 1 << 63, 1 << 32, 1 << 31, 65_535, 65_536, 65_537]),
         _ => random.below(40) as u64,
     }
@@ -89,7 +89,7 @@ fn wild_number(random: &mut Random) -> u64 {
 fn wild_bytes(random: &mut Random) -> Vec<u8> {
     let count = random.pick(&[0, 1, 2, 3, 5, 8, 13, 30, 70, 256]);
     if random.one_in(3) {
-        return (0..count).map(|_| random.next() as u8).collect();
+        return (0..count).map(|_| random.word() as u8).collect();
     }
     (0..count.min(70)).flat_map(|_| wild_node(random)).collect()
 }
@@ -97,13 +97,13 @@ fn wild_bytes(random: &mut Random) -> Vec<u8> {
 fn wild_node(random: &mut Random) -> Vec<u8> {
     match random.below(8) {
         0 => vec![0],
-        1 => nodes::int(random.next() as i32 >> random.below(32)),
+        1 => nodes::int(random.word() as i32 >> random.below(32)),
         2 => nodes::text(random.below(40), random.below(12)),
         3 => nodes::name(random.below(40), random.below(12)),
         4 => nodes::column(random.below(34) as u8),
         5 => vec![random.between(16, 18) as u8],
         6 => vec![random.between(32, 49) as u8],
-        _ => vec![random.next() as u8],
+        _ => vec![random.word() as u8],
     }
 }
 
@@ -115,9 +115,9 @@ fn wild_words(random: &mut Random) -> Vec<u64> {
 /// Any word, or one that is nearly a cell or a rule.
 fn wild_word(random: &mut Random) -> u64 {
     match random.below(8) {
-        0 => random.next(),
-        1 => random.next() >> random.below(64),
-        2 => nodes::int_word(random.next() as i32),
+        0 => random.word(),
+        1 => random.word() >> random.below(64),
+        2 => nodes::int_word(random.word() as i32),
         3 => nodes::binary_word(),
         4 => random.below(4) as u64 | (random.below(8) as u64) << 8,
         5 => 0,
@@ -145,7 +145,7 @@ fn wild_text(random: &mut Random) -> Text {
 /// Any byte, mostly one of few, so that texts are equal now and then.
 fn wild_byte(random: &mut Random) -> u8 {
     match random.below(8) {
-        0 => random.next() as u8,
+        0 => random.word() as u8,
         few => b"abc\"\0\n~"[few - 1],
     }
 }

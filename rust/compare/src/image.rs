@@ -14,6 +14,12 @@ pub enum Argument {
     Number(u64),
 }
 
+/// The words that bytes of the memory hold.
+pub fn words_in(bytes: &[u8]) -> Vec<u64> {
+    let word = |bytes: &[u8]| bytes.iter().rev().fold(0, |word, &byte| word << 8 | byte as u64);
+    bytes.chunks_exact(8).map(word).collect()
+}
+
 /// Pointers that an empty slice may come with.
 const NOWHERE: [u64; 3] = [0, 1, u64::MAX];
 

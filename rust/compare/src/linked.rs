@@ -2,7 +2,7 @@
 
 use crate::calls::by_number;
 use crate::image::Argument;
-use crate::library::{calls, Answered, Library, ARGUMENTS};
+use crate::library::{numbers, Asked, Library};
 
 /// Lends each call this memory: words, so that they lie at addresses that are multiples of 8.
 #[derive(Default)]
@@ -11,32 +11,17 @@ pub struct Linked {
 }
 
 impl Library for Linked {
-    fn has(&self, number: u8) -> bool {
-        calls().any(|call| call.number == number)
-    }
-
-    fn ask(
-        &mut self,
-        number: u8,
-        arguments: &[Argument],
-        memory: &mut [u8],
-    ) -> Result<Answered, String> {
+    fn ask(&mut self, call: u8, arguments: &[Argument], memory: &mut [u8]) -> Asked {
         let needed = memory.len().div_ceil(8);
         if self.words.len() < needed {
             self.words.resize(needed, 0);
         }
         let base = self.words.as_mut_ptr().cast::<u8>();
-        let mut numbers = [0; ARGUMENTS];
-        for (number, argument) in numbers.iter_mut().zip(arguments) {
-            *number = match *argument {
-                Argument::Place(at) => base as u64 + at as u64,
-                Argument::Number(number) => number,
-            };
-        }
+        let numbers = numbers(arguments, base as u64);
         // SAFETY: the words are at least as long as the memory, and the arguments are the header's.
         unsafe {
             std::ptr::copy_nonoverlapping(memory.as_ptr(), base, memory.len());
-            let answered = by_number(number, &numbers).ok_or("no such call")?;
+            let answered = by_number(call, &numbers).ok_or("no such call")?;
             std::ptr::copy_nonoverlapping(base, memory.as_mut_ptr(), memory.len());
             Ok(answered)
         }

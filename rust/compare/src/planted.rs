@@ -2,7 +2,7 @@
 //! can fail.
 
 use crate::image::Argument;
-use crate::library::{Answered, Library};
+use crate::library::{Answered, Asked, Library};
 
 /// A mistake by its name.
 pub type Mistake = (&'static str, fn(&mut Spoiled));
@@ -51,12 +51,7 @@ impl Library for Planted {
         self.library.has(call)
     }
 
-    fn ask(
-        &mut self,
-        call: u8,
-        arguments: &[Argument],
-        memory: &mut [u8],
-    ) -> Result<Answered, String> {
+    fn ask(&mut self, call: u8, arguments: &[Argument], memory: &mut [u8]) -> Asked {
         let before = memory.to_vec();
         let answered = self.library.ask(call, arguments, memory)?;
         let mut spoiled = Spoiled { arguments, before: &before, after: memory, answered };

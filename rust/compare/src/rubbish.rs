@@ -13,7 +13,7 @@ pub struct Rubbish {
 impl Rubbish {
     pub fn new(seed: u64) -> Rubbish {
         let mut random = Random::new(seed);
-        let pool = (0..POOL / 8).flat_map(|_| random.next().to_le_bytes()).collect();
+        let pool = (0..POOL / 8).flat_map(|_| random.word().to_le_bytes()).collect();
         Rubbish { pool, random }
     }
 

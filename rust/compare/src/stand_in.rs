@@ -1,7 +1,7 @@
 //! The model in the place of the archive, to try the comparison itself.
 
-use crate::image::Argument;
-use crate::library::{calls, Answered, Library};
+use crate::image::{words_in, Argument};
+use crate::library::{Answered, Asked, Library};
 use cases::answer::{run, Lent, Outcome};
 use cases::call::{signature_of, Call, Kind, EARLIER};
 use std::ops::Range;
@@ -42,11 +42,6 @@ impl Reader<'_> {
         }
     }
 
-    fn words(&self, place: Range<usize>) -> Vec<u64> {
-        let word = |bytes: &[u8]| u64::from_le_bytes(bytes.try_into().expect("eight bytes"));
-        self.memory[place].chunks_exact(8).map(word).collect()
-    }
-
     fn take(&mut self, kind: Kind) {
         let call = std::mem::replace(&mut self.call, Call::new(0));
         self.call = match kind {
@@ -56,7 +51,7 @@ impl Reader<'_> {
             }
             Kind::Words => {
                 let place = self.slice(8);
-                call.words(self.words(place))
+                call.words(words_in(&self.memory[place]))
             }
             Kind::Number => call.number(self.number()),
             Kind::Text => {
@@ -72,7 +67,7 @@ impl Reader<'_> {
             }
             Kind::WordsOut => {
                 self.output = self.slice(8);
-                self.lent.words_out = self.words(self.output.clone());
+                self.lent.words_out = words_in(&self.memory[self.output.clone()]);
                 call
             }
         };
@@ -80,16 +75,7 @@ impl Reader<'_> {
 }
 
 impl Library for StandIn {
-    fn has(&self, number: u8) -> bool {
-        calls().any(|call| call.number == number)
-    }
-
-    fn ask(
-        &mut self,
-        number: u8,
-        arguments: &[Argument],
-        memory: &mut [u8],
-    ) -> Result<Answered, String> {
+    fn ask(&mut self, number: u8, arguments: &[Argument], memory: &mut [u8]) -> Asked {
         let signature = signature_of(number).ok_or("no such call")?;
         let lent = Lent { text: Vec::new(), used: 0, bytes_out: Vec::new(), words_out: Vec::new() };
         let call = Call::new(number);

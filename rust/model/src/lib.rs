@@ -13,7 +13,7 @@ mod value;
 pub use condition::{last_kind, read_tree, Node, Tree};
 pub use expression::{bind, evaluate, fold, with, Written};
 pub use printing::{print, print_value};
-pub use query::{delete, inner_join, insert, left_join, select, update};
+pub use query::{delete, inner_join, insert, left_join, select, update, Join};
 pub use table::{earlier, inner_join_columns, left_join_columns, row, Earlier};
 pub use value::{
     but_nullable, cell_fault, column_fault, compare, decode, encode, find_column, is_valid_value,

@@ -35,7 +35,7 @@ pub(crate) fn check_room(text: &[u8], used: usize) -> Result<(), Refusal> {
 /// The number of columns, or 8 at 0.
 pub(crate) fn column_count(columns: &[u64]) -> Result<usize, Refusal> {
     let count = columns.len() / 2;
-    if columns.len() % 2 != 0 || !COLUMNS.contains(&count) {
+    if !columns.len().is_multiple_of(2) || !COLUMNS.contains(&count) {
         return Err(Refusal::at(8, 0));
     }
     Ok(count)
@@ -52,7 +52,7 @@ pub(crate) fn joined_count(left: &[u64], right: &[u64]) -> Result<usize, Refusal
 
 /// 8 at 0 for a table that is no whole number of rows, or too many.
 pub(crate) fn check_row_count(rows: &[u64], columns: usize) -> Result<(), Refusal> {
-    if rows.len() % columns != 0 || rows.len() / columns > MOST_ROWS {
+    if !rows.len().is_multiple_of(columns) || rows.len() / columns > MOST_ROWS {
         return Err(Refusal::at(8, 0));
     }
     Ok(())
@@ -80,7 +80,7 @@ pub(crate) fn check_cells(cells: &[u64], used: usize, first: usize) -> Result<()
 
 /// One row of the table, or the empty part.
 pub fn row(rows: &[u64], columns: usize, number: usize) -> &[u64] {
-    if !COLUMNS.contains(&columns) || rows.len() % columns != 0 {
+    if !COLUMNS.contains(&columns) || !rows.len().is_multiple_of(columns) {
         return &[];
     }
     rows.chunks_exact(columns).nth(number).unwrap_or(&[])

@@ -2,7 +2,7 @@
 
 use model::{
     bind, compare, encode, evaluate, fold, insert, left_join, print, print_value, select, with,
-    Cell, Refusal, Written,
+    Cell, Join, Refusal, Written,
 };
 use std::cmp::Ordering;
 
@@ -92,13 +92,18 @@ fn a_left_join() {
     buffer.resize(1 + ROOM, 0);
     let mut output = [7; 9];
     let equality = [4, 0, 4, 1, 32];
-    let mut join = |output: &mut [u64]| {
-        left_join(&column, &left, &column, &right, &equality, &mut buffer, 1, output)
+    let join = Join {
+        left_columns: &column,
+        left_rows: &left,
+        right_columns: &column,
+        right_rows: &right,
+        condition: &equality,
     };
-    assert_eq!(join(&mut output), Ok(4));
+    let mut joined = |output: &mut [u64]| left_join(&join, &mut buffer, 1, output);
+    assert_eq!(joined(&mut output), Ok(4));
     let expected = [word(1), word(1), word(1), word(1), word(2), 0, word(3), word(3), 7];
     assert_eq!(output, expected);
-    assert_eq!(join(&mut output[..7]), Err(refusal(9, 8)));
+    assert_eq!(joined(&mut output[..7]), Err(refusal(9, 8)));
 }
 
 fn name(text: &str, name: &str) -> Vec<u8> {
@@ -166,7 +171,7 @@ fn joined_conditions() {
     let full = sixty_four_nodes();
     assert_eq!(with(&full, NULL, &[], 0, &mut output), Err(refusal(2, 64)));
     assert_eq!(with(&full[..63], NULL, &[], 0, &mut output), Err(refusal(2, 64)));
-    let deep = [NULL, &vec![17; 15]].concat();
+    let deep = [NULL, &[17; 15]].concat();
     assert_eq!(with(&deep, NULL, &[], 0, &mut output), Err(refusal(2, 17)));
 }
 

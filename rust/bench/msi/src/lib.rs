@@ -8,34 +8,34 @@ mod errors;
 // The copied files stay as they are, so their warnings and their layout are not ours.
 #[allow(warnings)]
 #[rustfmt::skip]
-#[path = "."]
+#[path = "../../../oracle/src/internal"]
 mod internal {
-    #[path = "../../../oracle/src/internal/category.rs"]
     pub mod category;
-    #[path = "../../../oracle/src/internal/codepage.rs"]
     pub mod codepage;
-    #[path = "../../../oracle/src/internal/column.rs"]
     pub mod column;
-    #[path = "../../../oracle/src/internal/expr.rs"]
     pub mod expr;
-    #[path = "../../../oracle/src/internal/language.rs"]
     pub mod language;
-    #[path = "../../../oracle/src/internal/query.rs"]
     pub mod query;
-    #[path = "../../../oracle/src/internal/streamname.rs"]
     pub mod streamname;
-    #[path = "../../../oracle/src/internal/stringpool.rs"]
     pub mod stringpool;
-    #[path = "../../../oracle/src/internal/table.rs"]
     pub mod table;
-    #[path = "../../../oracle/src/internal/value.rs"]
     pub mod value;
+}
+
+// Of the oracle's driver only what stands between the plain types and those of the copied files: off the clock.
+#[allow(dead_code)]
+#[rustfmt::skip]
+#[path = "../../../oracle/src/driver"]
+mod driver {
+    mod panics;
+    mod stop;
+    pub mod translate;
 }
 
 mod ready;
 mod store;
 
-use work::{Ready, Side, Task};
+use work::{plain, Ready, Side, Task};
 
 pub struct Msi {
     pub name: &'static str,

@@ -1,15 +1,15 @@
 //! Tables in memory, written by table.rs itself.
 
+use crate::driver::translate::{columns_of, row_of, value_of};
 use crate::internal::codepage::CodePage;
-use crate::internal::column::Column;
 use crate::internal::query::{Insert, Select};
 use crate::internal::stringpool::StringPool;
-use crate::internal::table::{Row, Rows, Table};
-use crate::internal::value::{Value, ValueRef};
+use crate::internal::table::{Rows, Table};
+use crate::internal::value::ValueRef;
 use std::collections::BTreeMap;
 use std::io::{self, Cursor};
 use std::rc::Rc;
-use work::{Cell, ColumnSpec, TableSpec};
+use work::TableSpec;
 
 /// All that a query runs on.
 pub struct Store {
@@ -42,6 +42,11 @@ impl Store {
         query.exec(&mut self.file, &self.pool, &self.tables)
     }
 
+    /// The rows of a select by content.
+    pub fn rows(&mut self, query: Select) -> Vec<work::Row> {
+        self.select(query).expect("rows").map(|row| row_of(&row)).collect()
+    }
+
     pub fn insert(&mut self, query: Insert) -> io::Result<()> {
         query.exec(&mut self.file, &mut self.pool, &self.tables)
     }
@@ -49,46 +54,6 @@ impl Store {
 
 /// The references to texts have two bytes, the shorter of the two forms.
 pub fn table_of(spec: &TableSpec) -> Rc<Table> {
-    Table::new(spec.name.clone(), spec.columns.iter().map(column_of).collect(), false)
-}
-
-fn column_of(spec: &ColumnSpec) -> Column {
-    let mut builder = Column::build(spec.name.as_str());
-    if spec.nullable {
-        builder = builder.nullable();
-    }
-    if spec.key {
-        builder = builder.primary_key();
-    }
-    match spec.kind {
-        1 => builder.int32(),
-        2 => builder.string(usize::from(spec.bound)),
-        _ => builder.binary(),
-    }
-}
-
-pub fn value_of(cell: &Cell) -> Value {
-    match cell {
-        Cell::Null => Value::Null,
-        Cell::Int(number) => Value::Int(*number),
-        Cell::Text(text) => Value::Str(text.clone()),
-        Cell::Binary => Value::Binary,
-    }
-}
-
-pub fn values_of(row: &[Cell]) -> Vec<Value> {
-    row.iter().map(value_of).collect()
-}
-
-pub fn cell_of(value: &Value) -> Cell {
-    match value {
-        Value::Null => Cell::Null,
-        Value::Int(number) => Cell::Int(*number),
-        Value::Str(text) => Cell::Text(text.clone()),
-        Value::Binary => Cell::Binary,
-    }
-}
-
-pub fn row_of(row: Row) -> work::Row {
-    (0..row.len()).map(|index| cell_of(&row[index])).collect()
+    let columns = columns_of(&spec.columns).ok().expect("columns that can be built");
+    Table::new(spec.name.clone(), columns, false)
 }

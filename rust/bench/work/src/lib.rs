@@ -1,6 +1,6 @@
 //! What is measured, in terms that each side translates into its own.
 
-pub use oracle::plain::{Cell, ColumnSpec, Row, TableSpec, Tree};
+pub use oracle::plain::{self, Cell, ColumnSpec, Row, TableSpec, Tree};
 use std::time::Duration;
 
 /// The time that this thread has had of a processor. Unlike the time of day it stands still while others are served.

@@ -122,7 +122,7 @@ pub fn random_fold(random: &mut Random) -> Call {
     if scene.random.one_in(2) {
         leaves = scene.columns(2).1;
         let kind = scene.any_kind();
-        leaves.push(Leaf { kind, node: nodes::column(scene.random.next() as u8) });
+        leaves.push(Leaf { kind, node: nodes::column(scene.random.word() as u8) });
     }
     let depth = scene.random.pick(&[2, 3, 3, 4, 5]);
     let condition = scene.condition(Want::Any, &leaves, depth);

@@ -96,7 +96,7 @@ fn selects(kind: u8) -> Vec<Call> {
 /// pairs where they match.
 fn tables(kind: u8) -> Vec<Call> {
     let mut calls = Vec::new();
-    let clue = vec![int_word(1), text_word(0, 1)];
+    let clue = [int_word(1), text_word(0, 1)];
     let rights = [vec![], vec![0, 0], vec![0; 4], clue.repeat(2)];
     for left in [vec![], vec![int_word(1)], vec![0, int_word(1), int_word(1)]] {
         for right in &rights {

@@ -73,7 +73,7 @@ fn two_sided(kind: u8, left: u64, right: u64, turn: usize) -> Call {
             nodes::column(row.len() as u8 - 1)
         }
     };
-    let left_node = node(left, turn % 2 == 0);
+    let left_node = node(left, turn.is_multiple_of(2));
     let right_node = node(right, turn % 4 < 2);
     if row.is_empty() {
         row.push(0);

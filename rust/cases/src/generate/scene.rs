@@ -61,7 +61,7 @@ impl Scene<'_> {
             text.extend_from_slice(random.pick(stems).as_bytes());
         }
         if !is_text {
-            text.extend((0..4).map(|_| random.next() as u8));
+            text.extend((0..4).map(|_| random.word() as u8));
         }
         Scene { random, text, is_text }
     }

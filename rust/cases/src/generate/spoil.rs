@@ -32,7 +32,7 @@ fn spoil_bytes(random: &mut Random, bytes: &mut Vec<u8>, used: usize) {
     let place = random.below(bytes.len() + 1);
     match random.below(8) {
         0 => bytes.truncate(place),
-        1 => bytes.insert(place, random.next() as u8),
+        1 => bytes.insert(place, random.word() as u8),
         2 => bytes.push(random.pick(&[5, 15, 19, 31, 47, 50, 255, 3, 4])),
         3 => bytes.push(random.pick(&[0, 16, 18, 32, 38, 46, 48, 49])),
         4 => bytes.extend_from_slice(&nodes::text(used, random.below(2))),
@@ -42,7 +42,7 @@ fn spoil_bytes(random: &mut Random, bytes: &mut Vec<u8>, used: usize) {
         }
         _ => {
             if let Some(byte) = bytes.get_mut(place) {
-                *byte = random.next() as u8;
+                *byte = random.word() as u8;
             }
         }
     }

@@ -120,7 +120,7 @@ fn broken_choices() -> Vec<Call> {
 
 pub fn random_row(random: &mut Random) -> Call {
     let columns = random.pick(&[1, 2, 3, 5]);
-    let words = (0..columns * random.below(6)).map(|_| random.next());
+    let words = (0..columns * random.below(6)).map(|_| random.word());
     let call = Call::new(ROW).words(words.collect::<Vec<u64>>());
     let mut call = call.number(columns as u64).number(random.below(6) as u64);
     spoil::sometimes(random, &mut call);

@@ -5,6 +5,7 @@ use super::driver::{shown, Driver, WAYS};
 use crate::call::Call;
 use crate::seen::{expression_at, label, printed, Expression, Seen, Value};
 use oracle::plain::{Built, Said, Tree};
+use std::slice::from_ref;
 
 /// The name of a column number, if there are more columns than that.
 pub fn numbered(columns: usize) -> impl Fn(&Expression) -> Option<String> {
@@ -24,7 +25,7 @@ pub fn evaluate(driver: &Driver, call: &Call) -> Option<Vec<Seen>> {
     }
     let expression = expression_at(call.byte_inputs()[0], &text)?;
     let tree = tree_of(&expression, &numbered(row.len()))?;
-    if !joins_stay_short(&expression, &longest_texts(row.len(), &[row.clone()])) {
+    if !joins_stay_short(&expression, &longest_texts(row.len(), from_ref(&row))) {
         return None;
     }
     let names: Vec<String> = (0..row.len() as u64).map(number_name).collect();

@@ -61,7 +61,7 @@ pub fn cell_of_word(word: u64) -> Option<Cell> {
 pub fn column_of(name: String, rule: u64) -> Option<ColumnSpec> {
     // Any sound name does; only the rule is in question.
     let name_word = 2 << 56 | 1;
-    model::column_fault(name_word, rule, 1).is_none().then(|| ColumnSpec {
+    model::column_fault(name_word, rule, 1).is_none().then_some(ColumnSpec {
         name,
         kind: rule as u8,
         nullable: rule >> 8 & 1 == 1,
@@ -78,7 +78,7 @@ pub fn rule_of(column: &ColumnSpec) -> u64 {
 /// Well formed columns with distinct UTF-8 names.
 pub fn columns_at(words: &[u64], text: &[u8]) -> Option<Vec<ColumnSpec>> {
     let count = words.len() / 2;
-    if words.len() % 2 != 0 || !(1..=MOST_COLUMNS).contains(&count) {
+    if !words.len().is_multiple_of(2) || !(1..=MOST_COLUMNS).contains(&count) {
         return None;
     }
     let mut columns: Vec<ColumnSpec> = Vec::new();
@@ -110,7 +110,7 @@ pub fn table_at(name: &str, columns: &[u64], rows: &[u64], text: &[u8]) -> Optio
 
 /// Whole rows, in columns with a length bound only ASCII.
 pub fn rows_at(columns: &[ColumnSpec], words: &[u64], text: &[u8]) -> Option<Vec<Row>> {
-    if words.len() % columns.len() != 0 || words.len() / columns.len() > MOST_ROWS {
+    if !words.len().is_multiple_of(columns.len()) || words.len() / columns.len() > MOST_ROWS {
         return None;
     }
     let row = |words: &[u64]| -> Option<Row> {

@@ -10,6 +10,18 @@ type Set = (String, Cell);
 /// The numbers of a left row and of its right one; a padded row has none.
 pub type Pair = (u64, Option<u64>);
 
+// Questions that are put in two ways: for rows by content, and for the numbers of rows.
+type Select<T> = fn(&TableSpec, &[String], Option<&Tree>, Built) -> Said<Vec<T>>;
+type Delete<T> = fn(&TableSpec, Option<&Tree>, Built) -> Said<Vec<T>>;
+type Update<T> = fn(&TableSpec, &[Set], Option<&Tree>, Built) -> Said<Vec<T>>;
+type Join<T> = fn(JoinKind, &TableSpec, &TableSpec, &Tree, Built) -> Said<Vec<T>>;
+type Insert<T> = fn(&TableSpec, &[Row]) -> Said<Vec<T>>;
+type SelectOverJoin<T> = fn(&Nested, Built) -> Said<Vec<T>>;
+
+type CompareKeys = fn(&[ColumnSpec], &[Cell], &[Cell]) -> Said<Ordering>;
+type JoinedColumns =
+    fn(JoinKind, &str, &[ColumnSpec], &str, &[ColumnSpec]) -> Said<Vec<ColumnSpec>>;
+
 /// The driver's functions in one build.
 pub struct Driver {
     pub source: u8,
@@ -20,27 +32,26 @@ pub struct Driver {
     pub equal: fn(&Cell, &Cell) -> bool,
     pub truth: fn(&Cell) -> bool,
     pub print_cell: fn(&Cell) -> String,
-    pub compare_keys: fn(&[ColumnSpec], &[Cell], &[Cell]) -> Said<Ordering>,
+    pub compare_keys: CompareKeys,
     pub valid_value: fn(&ColumnSpec, &Cell) -> Said<bool>,
     pub column_number: fn(&[ColumnSpec], &str) -> Said<Option<u64>>,
-    pub joined_columns:
-        fn(JoinKind, &str, &[ColumnSpec], &str, &[ColumnSpec]) -> Said<Vec<ColumnSpec>>,
+    pub joined_columns: JoinedColumns,
     pub evaluate: fn(&[String], &[Cell], &Tree, Built) -> Said<Cell>,
     pub fold: fn(&Tree) -> Said<Tree>,
     pub print_with: fn(Option<&Tree>, &Tree, Built) -> Said<String>,
     pub print_unfolded: fn(&Tree) -> Said<String>,
-    pub select: fn(&TableSpec, &[String], Option<&Tree>, Built) -> Said<Vec<Row>>,
-    pub delete: fn(&TableSpec, Option<&Tree>, Built) -> Said<Vec<Row>>,
-    pub update: fn(&TableSpec, &[Set], Option<&Tree>, Built) -> Said<Vec<Row>>,
-    pub join: fn(JoinKind, &TableSpec, &TableSpec, &Tree, Built) -> Said<Vec<Row>>,
-    pub insert: fn(&TableSpec, &[Row]) -> Said<Vec<Row>>,
-    pub selected_rows: fn(&TableSpec, &[String], Option<&Tree>, Built) -> Said<Vec<u64>>,
-    pub kept_rows: fn(&TableSpec, Option<&Tree>, Built) -> Said<Vec<u64>>,
-    pub updated_rows: fn(&TableSpec, &[Set], Option<&Tree>, Built) -> Said<Vec<u64>>,
-    pub joined_pairs: fn(JoinKind, &TableSpec, &TableSpec, &Tree, Built) -> Said<Vec<Pair>>,
-    pub inserted_order: fn(&TableSpec, &[Row]) -> Said<Vec<u64>>,
-    pub select_over_join: fn(&Nested, Built) -> Said<Vec<Row>>,
-    pub selected_pairs: fn(&Nested, Built) -> Said<Vec<Pair>>,
+    pub select: Select<Row>,
+    pub delete: Delete<Row>,
+    pub update: Update<Row>,
+    pub join: Join<Row>,
+    pub insert: Insert<Row>,
+    pub selected_rows: Select<u64>,
+    pub kept_rows: Delete<u64>,
+    pub updated_rows: Update<u64>,
+    pub joined_pairs: Join<Pair>,
+    pub inserted_order: Insert<u64>,
+    pub select_over_join: SelectOverJoin<Row>,
+    pub selected_pairs: SelectOverJoin<Pair>,
 }
 
 macro_rules! driver {

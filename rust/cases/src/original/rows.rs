@@ -148,7 +148,7 @@ fn sets_at(
     words: &[u64],
     text: &[u8],
 ) -> Option<Vec<(String, Cell)>> {
-    if words.len() % 2 != 0 || words.len() / 2 > 64 {
+    if !words.len().is_multiple_of(2) || words.len() / 2 > 64 {
         return None;
     }
     let set = |set: &[u64]| {
