@@ -3,5 +3,6 @@ pub mod Giving
 pub mod Leaves
 pub mod Deciding
 pub mod Lying
+pub mod Descent
 pub mod Walk
 pub mod Unique
