@@ -11,14 +11,14 @@ use Rattle.conditions.specs.declared.Node.the-variants.{Leaf, One, Two}
 use Rattle.forms.specs.Held.{LeafHeld, Denotes}
 
 -- two leaves of one node have the same word
-node-leaf : {w x : ℕ} {n : Node} → n ≡ Leaf w → n ≡ Leaf x → w ≡ x
-node-leaf e f = cc
+same-word : {w x : ℕ} {n : Node} → n ≡ Leaf w → n ≡ Leaf x → w ≡ x
+same-word e f = cc
 
 module _ (used k : ℕ) (nodes : List ℕ) where
   -- where a leaf stands, the tree is that leaf
   pub leaf-at : (t : Tree ℕ) (w : ℕ) → Denotes used nodes k t → nodeOf (getD nodes k 0) ≡ Leaf w → (t ≡ leaf w) × LeafHeld used w
   unfolding Denotes
-  leaf-at (leaf x) w d e = let q : x ≡ w = node-leaf (d .0) e in (ap (λ y. leaf y) q, subst (LeafHeld used) q (d .1))
+  leaf-at (leaf x) w d e = let q : x ≡ w = same-word (d .0) e in (ap (λ y. leaf y) q, subst (LeafHeld used) q (d .1))
   leaf-at (unary op a) w d e = absurd (let f : One op ≡ Leaf w = sym (d .0) ∙ e in let z : _≡_ {A = ℕ} 0 1 = cc in omega arith)
   leaf-at (binary op a b) w d e = absurd (let f : Two op (d .0) ≡ Leaf w = sym (d .1) ∙ e in let z : _≡_ {A = ℕ} 0 1 = cc in omega arith)
 

@@ -2,11 +2,10 @@
 use mathlib.Core.Path.{_≡_, refl, sym, ap, subst, _∙_}
 use mathlib.Core.Bool.{Bool, true}
 use mathlib.Core.List.{List}
-use Prim.Native.Nat.{ℕ, _-_, _^_, _/_, _%_, _≤_, _<_}
+use Prim.Native.Nat.{ℕ, _-_, _≤_}
 use native.Mathlib.Omega.{arith}
 use lib.ListN.{length, take, getD}
 use lib.Seq.{length-take-le}
-use borrow.Author.Tests.{lt-ltb, le-ltb}
 use Rattle.cells.specs.Cell.{WellFormed}
 use Rattle.cells.proofs.Stops.{inside-more}
 use Rattle.values.specs.Value.{valueOf, toBool, fromBool}
@@ -23,21 +22,6 @@ use Rattle.conditions.proofs.Descent.{OneSound, TwoSound, sound-leaf, sound-one
 use Rattle.wordwise.specs.Settled.{nothing, Settled, onBoth}
 use Rattle.wordwise.proofs.Worth.{Worth, worth, holds-both}
 use Rattle.quick.specs.Quick.{Stands, Found}
-
--- ---- a node by its kind
-
-module _ (w : ℕ) where
-  pub node-leaf : w / 2 ^ 56 < 16 → nodeOf w ≡ Leaf w
-  unfolding nodeOf
-  node-leaf h = rw (lt-ltb (w / 2 ^ 56) 16 h)
-
-  pub node-one : 16 ≤ w / 2 ^ 56 → w / 2 ^ 56 < 32 → nodeOf w ≡ One (w / 2 ^ 56)
-  unfolding nodeOf
-  node-one h k = rw (le-ltb (w / 2 ^ 56) 16 h, lt-ltb (w / 2 ^ 56) 32 k)
-
-  pub node-two : 32 ≤ w / 2 ^ 56 → nodeOf w ≡ Two (w / 2 ^ 56) (w % 2 ^ 56)
-  unfolding nodeOf
-  node-two h = rw (le-ltb (w / 2 ^ 56) 16 (omega arith), le-ltb (w / 2 ^ 56) 32 h)
 
 -- ---- the tree at k
 

@@ -15,16 +15,12 @@ use Rattle.values.specs.Order.{order}
 use Rattle.values.proofs.Ordered.{order-self}
 use Rattle.values.proofs.ByWord.{left-no-text}
 use Rattle.integers.specs.Outcome.{Outcome, value}
-use Rattle.conditions.specs.Ast.{Tree, leaf, mapTree, eval}
+use Rattle.conditions.specs.Ast.{Tree, mapTree, eval}
 use Rattle.conditions.specs.Table.{leafOf, rowOf}
-use Rattle.forms.specs.Form.{Parsed}
+use Rattle.forms.proofs.Unique.{one-tree}
 use Rattle.straight.specs.Straight.{Ran, Straight}
 
--- the tree that was read, and the value that an outcome gives
-treeIn : Parsed → Tree ℕ
-treeIn (Parsed.tree t) = t
-treeIn (Parsed.refusal number place) = leaf 0
-
+-- the value that an outcome gives
 given : Outcome → Value
 given (value v) = v
 given (Outcome.refused number) = null
@@ -34,10 +30,8 @@ module _ (b row stored : List ℕ) (w w′ : ℕ) where
   meaning t = eval (record { limit = 0 }) (rowOf stored row) (mapTree (leafOf stored) t)
 
   one-value : Ran b row stored w → Ran b row stored w′ → valueOf stored w ≡ valueOf stored w′
-  unfolding treeIn given
-  one-value h k =
-      let t : h .tree ≡ k .tree = ap treeIn (sym (h .form) ∙ k .form) in
-      ap given (sym (h .means (record { limit = 0 })) ∙ ap meaning t ∙ k .means (record { limit = 0 }))
+  unfolding given
+  one-value h k = ap given (sym (h .means (record { limit = 0 })) ∙ ap meaning (one-tree (h .form) (k .form)) ∙ k .means (record { limit = 0 }))
 
   -- no text is told, and any other value has one word
   one-cell : Ran b row stored w → Ran b row stored w′ → w ≡ w′

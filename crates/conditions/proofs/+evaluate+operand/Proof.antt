@@ -5,7 +5,7 @@ use native.Mathlib.Omega.{arith}
 use mathlib.Core.Path.{sym, _∙_}
 use lib.ListN.{getD}
 use Rattle.conditions.specs.Table.{nodeOf}
-use Rattle.conditions.proofs.Leaves.{leaf-node}
+use Rattle.conditions.proofs.NodeKind.{node-low}
 use Rattle.conditions.proofs.Descent.{in-table, deep, sound-one, sound-two}
 use Rattle.conditions.proofs.Walk.{
   leaf-sound,
@@ -184,10 +184,10 @@ operand-shared-slice-read-word : (t : ℕ) → operand-lts.Need-shared-slice-rea
 operand-shared-slice-read-word t c = in-table _ _ _ _ _ (c .before .before .before .before .pre .1 .sound)
 
 operand-leaf-requires : (t : ℕ) → operand-lts.Need-leaf-requires (os t) (operand-at t) operand.Post
-operand-leaf-requires t c κs = leaf-sound _ _ _ _ _ _ _ _ (c .before .before .before .before .before .pre .1) _ (leaf-node _ (c .if1 .taken))
+operand-leaf-requires t c κs = leaf-sound _ _ _ _ _ _ _ _ (c .before .before .before .before .before .pre .1) _ (node-low _ (c .if1 .taken))
 
 operand-returns : (t : ℕ) → operand-lts.Need-returns (os t) (operand-at t) operand.Post
-operand-returns t c = (leaf-answers _ _ _ _ _ _ _ _ (c .before .before .before .before .before .before .pre .1) _ _ (leaf-node _ (c .before .if1 .taken)) (c .leaf .ensures), lies-leaf (c .before .before .before .before .before .before .args .top) _ _ _ _ _ (c .before .before .before .before .before .before .args .top) (leaf-node _ (c .before .if1 .taken)) (c .leaf .ensures))
+operand-returns t c = (leaf-answers _ _ _ _ _ _ _ _ (c .before .before .before .before .before .before .pre .1) _ _ (node-low _ (c .before .if1 .taken)) (c .leaf .ensures), lies-leaf (c .before .before .before .before .before .before .args .top) _ _ _ _ _ (c .before .before .before .before .before .before .args .top) (node-low _ (c .before .if1 .taken)) (c .leaf .ensures))
 
 operand-evaluate-requires : (t : ℕ) → operand-lts.Need-evaluate-requires (os t) (operand-at t) operand.Post
 operand-evaluate-requires t c κs = (omega (arith, c .before .before .before .before .before .before .pre .0), c .before .before .before .before .before .before .pre .1)

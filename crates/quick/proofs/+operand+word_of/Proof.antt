@@ -4,11 +4,9 @@ use mathlib.Core.Path.{refl, sym, _∙_}
 use Prim.Native.Nat.{ℕ, _<_, _+_, _*_}
 use native.Mathlib.Omega.{arith}
 use borrow.Author.Needs.{needs, scaled-fits}
+use Rattle.conditions.proofs.NodeKind.{node-leaf, node-one, node-two}
 use Rattle.conditions.proofs.Descent.{in-table, deep, sound-one, sound-two}
 use Rattle.quick.proofs.Walking.{
-  node-leaf,
-  node-one,
-  node-two,
   leaf-sound,
   leaf-found,
   one-stands,

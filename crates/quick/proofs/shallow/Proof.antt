@@ -4,9 +4,9 @@ use Prim.Native.Nat.{_-_, _%_, _^_, _<_}
 use lib.ListN.{length, getD}
 use native.Mathlib.Omega.{arith}
 use borrow.Author.Needs.{scaled-fits}
-use Rattle.conditions.proofs.Leaves.{leaf-node}
+use Rattle.conditions.proofs.NodeKind.{node-leaf, node-low, node-two}
 use Rattle.conditions.proofs.Descent.{in-table, sound-two}
-use Rattle.quick.proofs.Walking.{node-leaf, node-two, leaf-sound, leaf-found, left-stands, right-stands, two-found}
+use Rattle.quick.proofs.Walking.{leaf-sound, leaf-found, left-stands, right-stands, two-found}
 use Rattle.quick.proofs.shallow.Statement.{statement}
 use Rattle.quick.proofs.shallow.Tie as tie
 
@@ -57,16 +57,16 @@ returns-5 : tie.Need-returns-5
 returns-5 c = λ n. absurd (n refl)
 
 leaf-requires-2 : tie.Need-leaf-requires-2
-leaf-requires-2 c κs = leaf-sound _ _ _ _ _ (left-stands _ _ _ _ _ (c .before .before .before .before .before .before .before .before .before .before .before .pre) _ _ (node-two _ (c .before .before .before .before .before .if2 .left))) _ (leaf-node _ (c .before .if4 .left))
+leaf-requires-2 c κs = leaf-sound _ _ _ _ _ (left-stands _ _ _ _ _ (c .before .before .before .before .before .before .before .before .before .before .before .pre) _ _ (node-two _ (c .before .before .before .before .before .if2 .left))) _ (node-low _ (c .before .if4 .left))
 
 leaf-requires-3 : tie.Need-leaf-requires-3
-leaf-requires-3 c κs = leaf-sound _ _ _ _ _ (right-stands _ _ _ _ _ (c .before .before .before .before .before .before .before .before .before .before .before .before .pre) _ _ (node-two _ (c .before .before .before .before .before .before .if2 .left))) _ (leaf-node _ (c .before .if5 .left))
+leaf-requires-3 c κs = leaf-sound _ _ _ _ _ (right-stands _ _ _ _ _ (c .before .before .before .before .before .before .before .before .before .before .before .before .pre) _ _ (node-two _ (c .before .before .before .before .before .before .if2 .left))) _ (node-low _ (c .before .if5 .left))
 
 two-requires : tie.Need-two-requires
 two-requires c κs = (c .before .leaf2 .ensures .within, c .leaf3 .ensures .within)
 
 returns-6 : tie.Need-returns-6
-returns-6 c = λ n. two-found _ _ _ _ _ (c .before .before .before .before .before .before .before .before .before .before .before .before .before .before .pre) _ _ (node-two _ (c .before .before .before .before .before .before .before .before .if2 .left)) _ (leaf-found _ _ _ _ _ (left-stands _ _ _ _ _ (c .before .before .before .before .before .before .before .before .before .before .before .before .before .before .pre) _ _ (node-two _ (c .before .before .before .before .before .before .before .before .if2 .left))) _ _ (leaf-node _ (c .before .before .before .before .if4 .left)) (c .before .before .leaf2 .ensures)) _ _ (leaf-found _ _ _ _ _ (right-stands _ _ _ _ _ (c .before .before .before .before .before .before .before .before .before .before .before .before .before .before .pre) _ _ (node-two _ (c .before .before .before .before .before .before .before .before .if2 .left))) _ _ (leaf-node _ (c .before .before .before .if5 .left)) (c .before .leaf3 .ensures)) n (c .two .ensures .1)
+returns-6 c = λ n. two-found _ _ _ _ _ (c .before .before .before .before .before .before .before .before .before .before .before .before .before .before .pre) _ _ (node-two _ (c .before .before .before .before .before .before .before .before .if2 .left)) _ (leaf-found _ _ _ _ _ (left-stands _ _ _ _ _ (c .before .before .before .before .before .before .before .before .before .before .before .before .before .before .pre) _ _ (node-two _ (c .before .before .before .before .before .before .before .before .if2 .left))) _ _ (node-low _ (c .before .before .before .before .if4 .left)) (c .before .before .leaf2 .ensures)) _ _ (leaf-found _ _ _ _ _ (right-stands _ _ _ _ _ (c .before .before .before .before .before .before .before .before .before .before .before .before .before .before .pre) _ _ (node-two _ (c .before .before .before .before .before .before .before .before .if2 .left))) _ _ (node-low _ (c .before .before .before .if5 .left)) (c .before .leaf3 .ensures)) n (c .two .ensures .1)
 
 pub shallow-spec : {M : Type 1} → statement M
 shallow-spec =
