@@ -1,19 +1,18 @@
 -- The laws of the walk: what a tree asks of its operands, and how the operands' parts make the whole one. Assumes nothing.
 use mathlib.Core.Path.{_≡_, refl, ap, _∙_}
 use mathlib.Core.List.{List, [], _∷_, _++_, append-assoc}
-use Prim.Native.Nat.{ℕ, _+_, _-_, _*_, _≤_, _<_, max}
+use Prim.Native.Nat.{ℕ, _+_, _-_, _*_, _≤_, _<_}
 use native.Mathlib.Omega.{arith}
 use native.Mathlib.Numerals.{add-one}
 use lib.ListN.{length, take, set, getD, length-append}
 use lib.Seq.{take-suc-set}
 use Rattle.refusals.specs.Stop.{stopOf}
 use Rattle.refusals.specs.declared.Refusal.{Refusal}
-use Rattle.conditions.specs.Ast.{Tree, leaf, unary, binary, mapTree, size, height}
+use Rattle.conditions.specs.Ast.{Tree, leaf, unary, binary, mapTree, size}
 use Rattle.conditions.specs.Table.{nodeOf}
 use Rattle.conditions.specs.declared.Node.the-variants.{Leaf, One, Two}
-use Rattle.conditions.proofs.Walk.{height-pos}
 use Rattle.forms.specs.Held.{LeafHeld}
-use Rattle.forms.proofs.Denoting.{leaf-at, one-at, two-at}
+use Rattle.forms.proofs.Denoting.{OneAt, TwoAt, leaf-at, one-at, two-at, leaf-size, one-size, one-height, two-size, two-height, right-below}
 use Rattle.postfix.specs.Postfix.{bytesOf, width}
 use Rattle.postfix.proofs.Reading.{width-size}
 use Rattle.numbering.specs.Number.{bindLeaf, namesStop}
@@ -39,10 +38,6 @@ operator-list : (before after s : List ℕ) (end e op : ℕ) → e < length afte
 operator-list before after s end e op h w = rw (add-one, take-suc-set) (ap (λ l. l ++ (op ∷ [])) w ∙ append-assoc (take end before) s (op ∷ []))
 
 module _ {stored columns nodes before : List ℕ} {k depth at end : ℕ} {t : Tree ℕ} (A : BindAsks stored columns nodes before k depth at end t) where
-  -- a call may go one deeper
-  pub deep : 0 < depth
-  deep = omega (arith, height-pos t, A .deep)
-
   module _ {w : ℕ} (e : nodeOf (getD nodes k 0) ≡ Leaf w) where
     -- the tree is the leaf
     is-leaf : (t ≡ leaf w) × LeafHeld (length stored) w
@@ -50,52 +45,41 @@ module _ {stored columns nodes before : List ℕ} {k depth at end : ℕ} {t : Tr
 
     -- what the leaf asks
     pub leaf-asks : LeafAsks stored columns before w at end
-    unfolding size
     leaf-asks =
-        let q : size t ≡ 1 = ap size (is-leaf .0) in
-        record { sound = A .sound; few = A .few; held = is-leaf .1; space = omega (arith, A .space); early = omega (arith, A .early) }
+        let q = leaf-size (is-leaf .0) in
+        record { sound = A .sound; few = A .few; held = is-leaf .1; space = omega (arith, q, A .space); early = omega (arith, q, A .early) }
 
     -- the leaf's part is the tree's
     pub leaf-bound : (after : List ℕ) (r : Part) → Binds stored columns before after at end (leaf w) r → Binds stored columns before after at end t r
     leaf-bound after r h = rw (is-leaf .0) h
 
   module _ {op : ℕ} (e : nodeOf (getD nodes k 0) ≡ One op) where
+    -- the operator over its operand
+    abbrev one : OneAt (length stored) k nodes op t
+    one = one-at (length stored) k nodes t op (A .held) e
+
     -- the operand
     abbrev only : Tree ℕ
-    only = one-at (length stored) k nodes t op (A .held) e .only
-
-    -- the tree is the operator over it
-    one-tree : t ≡ unary op only
-    one-tree = one-at (length stored) k nodes t op (A .held) e .whole
+    only = one .only
 
     -- the operator is a byte
     pub one-known : op < 19
-    one-known = one-at (length stored) k nodes t op (A .held) e .known .1
+    one-known = one .known .1
 
     -- the operand stands before it
     pub one-below : 0 < k
-    one-below = one-at (length stored) k nodes t op (A .held) e .below
-
-    -- one node more
-    one-size : size t ≡ size only + 1
-    unfolding size
-    one-size = ap size one-tree
-
-    -- one higher
-    one-height : height t ≡ height only + 1
-    unfolding height
-    one-height = ap height one-tree
+    one-below = one .below
 
     -- the operand asks no more than the tree
     only-asks : BindAsks stored columns nodes before (k - 1) (depth - 1) at end only
     only-asks = record {
       sound = A .sound;
       few = A .few;
-      held = one-at (length stored) k nodes t op (A .held) e .denotes;
-      deep = omega (arith, one-height, A .deep);
+      held = one .denotes;
+      deep = omega (arith, one-height one, A .deep);
       inside = omega (arith, A .inside);
-      space = omega (arith, one-size, A .space);
-      early = omega (arith, one-size, A .early);
+      space = omega (arith, one-size one, A .space);
+      early = omega (arith, one-size one, A .early);
     }
 
     -- what the operand asks
@@ -110,7 +94,7 @@ module _ {stored columns nodes before : List ℕ} {k depth at end : ℕ} {t : Tr
       unfolding namesStop
       one-refused {q} g =
           let h : namesStop stored columns at only ≡ stopOf q = rw g at (f only only-asks) in
-          rw (g, one-tree) h
+          rw (g, one .whole) h
 
       module _ {p n : ℕ} (g : r ≡ Bound p n) (long : length after ≡ length before) where
         -- the operand's part
@@ -119,16 +103,16 @@ module _ {stored columns nodes before : List ℕ} {k depth at end : ℕ} {t : Tr
 
         -- there is space for the operator
         pub one-room : p < length after
-        one-room = omega (arith, operand .1, bound-width stored columns only, one-size, A .space)
+        one-room = omega (arith, operand .1, bound-width stored columns only, one-size one, A .space)
 
         -- the offset after the operand is one of the condition's
         pub one-next : n < 448
-        one-next = omega (arith, operand .3, width-size only, one-size, A .early)
+        one-next = omega (arith, operand .3, width-size only, one-size one, A .early)
 
         -- with the operator after it, the operand's part is the tree's
         pub one-binds : Binds stored columns before (set after p op) at end t (Bound (p + 1) (n + 1))
         unfolding namesStop mapTree bytesOf
-        one-binds = rw one-tree (
+        one-binds = rw (one .whole) (
           operand .0,
           omega (arith, operand .1, length-append (bytesOf (mapTree (bindLeaf stored columns) only)) (op ∷ [])),
           operator-list before after (bytesOf (mapTree (bindLeaf stored columns) only)) end p op one-room (operand .2),
@@ -136,50 +120,36 @@ module _ {stored columns nodes before : List ℕ} {k depth at end : ℕ} {t : Tr
         )
 
   module _ {op l : ℕ} (e : nodeOf (getD nodes k 0) ≡ Two op l) where
+    -- the operator over its operands
+    abbrev two : TwoAt (length stored) k nodes op l t
+    two = two-at (length stored) k nodes t op l (A .held) e
+
     -- the left operand
     abbrev left : Tree ℕ
-    left = two-at (length stored) k nodes t op l (A .held) e .left
+    left = two .left
 
     -- the right operand
     abbrev right : Tree ℕ
-    right = two-at (length stored) k nodes t op l (A .held) e .right
-
-    -- the tree is the operator over them
-    two-tree : t ≡ binary op left right
-    two-tree = two-at (length stored) k nodes t op l (A .held) e .whole
+    right = two .right
 
     -- the operator is a byte
     pub two-known : op < 50
-    two-known = two-at (length stored) k nodes t op l (A .held) e .known .1
+    two-known = two .known .1
 
-    -- the left operand stands before it
-    left-below : l < k
-    left-below = two-at (length stored) k nodes t op l (A .held) e .below
-
-    -- so does the right one
+    -- the right operand stands before it
     pub two-below : 0 < k
-    two-below = omega (arith, left-below)
-
-    -- one node more than both
-    two-size : size t ≡ size left + size right + 1
-    unfolding size
-    two-size = ap size two-tree
-
-    -- one higher than the higher
-    two-height : height t ≡ max (height left) (height right) + 1
-    unfolding height
-    two-height = ap height two-tree
+    two-below = right-below two
 
     -- the left operand asks no more than the tree
     left-ready : BindAsks stored columns nodes before l (depth - 1) at end left
     left-ready = record {
       sound = A .sound;
       few = A .few;
-      held = two-at (length stored) k nodes t op l (A .held) e .left-denotes;
-      deep = omega (arith, two-height, A .deep);
-      inside = omega (arith, left-below, A .inside);
-      space = omega (arith, two-size, A .space);
-      early = omega (arith, two-size, A .early);
+      held = two .left-denotes;
+      deep = omega (arith, two-height two, A .deep);
+      inside = omega (arith, two .below, A .inside);
+      space = omega (arith, two-size two, A .space);
+      early = omega (arith, two-size two, A .early);
     }
 
     -- what the left operand asks
@@ -194,7 +164,7 @@ module _ {stored columns nodes before : List ℕ} {k depth at end : ℕ} {t : Tr
       unfolding namesStop
       left-refused {q} g =
           let h : namesStop stored columns at left ≡ stopOf q = rw g at (f left left-ready) in
-          rw (g, two-tree, h)
+          rw (g, two .whole, h)
 
       module _ {d m : ℕ} (g : r ≡ Bound d m) (long : length middle ≡ length before) where
         -- the left operand's part
@@ -206,11 +176,11 @@ module _ {stored columns nodes before : List ℕ} {k depth at end : ℕ} {t : Tr
         right-ready = record {
           sound = A .sound;
           few = A .few;
-          held = two-at (length stored) k nodes t op l (A .held) e .right-denotes;
-          deep = omega (arith, two-height, A .deep);
+          held = two .right-denotes;
+          deep = omega (arith, two-height two, A .deep);
           inside = omega (arith, A .inside);
-          space = omega (arith, first .1, bound-width stored columns left, two-size, A .space);
-          early = omega (arith, first .3, width-size left, two-size, A .early);
+          space = omega (arith, first .1, bound-width stored columns left, two-size two, A .space);
+          early = omega (arith, first .3, width-size left, two-size two, A .early);
         }
 
         -- what the right operand asks
@@ -223,7 +193,7 @@ module _ {stored columns nodes before : List ℕ} {k depth at end : ℕ} {t : Tr
           -- the right operand's bytes begin where the left one's end
           right-names : namesStop stored columns at t ≡ namesStop stored columns m right
           unfolding namesStop
-          right-names = ap (namesStop stored columns at) two-tree ∙ rw (first .0, first .3)
+          right-names = ap (namesStop stored columns at) (two .whole) ∙ rw (first .0, first .3)
 
           -- its refusal is handed on
           pub right-refused : {q : Refusal} → s ≡ Refused q → Binds stored columns before after at end t s
@@ -238,11 +208,11 @@ module _ {stored columns nodes before : List ℕ} {k depth at end : ℕ} {t : Tr
 
             -- there is space for the operator
             pub two-room : p < length after
-            two-room = omega (arith, first .1, second .1, bound-width stored columns left, bound-width stored columns right, two-size, A .space)
+            two-room = omega (arith, first .1, second .1, bound-width stored columns left, bound-width stored columns right, two-size two, A .space)
 
             -- the offset after the operands is one of the condition's
             pub two-next : n < 448
-            two-next = omega (arith, first .3, second .3, width-size left, width-size right, two-size, A .early)
+            two-next = omega (arith, first .3, second .3, width-size left, width-size right, two-size two, A .early)
 
             -- the bytes of the two operands
             both-bytes : take p after ≡ take end before ++ (bytesOf (mapTree (bindLeaf stored columns) left) ++ bytesOf (mapTree (bindLeaf stored columns) right))
@@ -255,7 +225,7 @@ module _ {stored columns nodes before : List ℕ} {k depth at end : ℕ} {t : Tr
                 let x = bytesOf (mapTree (bindLeaf stored columns) left) in
                 let y = bytesOf (mapTree (bindLeaf stored columns) right) in (
                   right-names ∙ second .0,
-                  rw two-tree (omega (arith, first .1, second .1, length-append x (y ++ (op ∷ [])), length-append y (op ∷ []))),
-                  rw two-tree (operator-list before after (x ++ y) end p op two-room both-bytes ∙ ap (λ z. take end before ++ z) (append-assoc x y (op ∷ []))),
-                  rw two-tree (omega (arith, first .3, second .3, length-append (bytesOf left) (bytesOf right ++ (op ∷ [])), length-append (bytesOf right) (op ∷ []))),
+                  rw (two .whole) (omega (arith, first .1, second .1, length-append x (y ++ (op ∷ [])), length-append y (op ∷ []))),
+                  rw (two .whole) (operator-list before after (x ++ y) end p op two-room both-bytes ∙ ap (λ z. take end before ++ z) (append-assoc x y (op ∷ []))),
+                  rw (two .whole) (omega (arith, first .3, second .3, length-append (bytesOf left) (bytesOf right ++ (op ∷ [])), length-append (bytesOf right) (op ∷ []))),
                 )

@@ -6,14 +6,13 @@ use native.Mathlib.Omega.{arith}
 use lib.ListN.{length, getD, List·getD-map}
 use mathlib.Core.Bool.{Bool, true, false, cond}
 use lib.Dec.{eqb}
-use borrow.Author.Tests.{eq-eqb, ne-eqb, lt-ltb}
+use borrow.Author.Tests.{eq-eqb, ne-eqb}
 use Rattle.cells.specs.Cell.{WellFormed}
 use Rattle.cells.proofs.Words.{ref-null}
 use Rattle.values.specs.Value.{null, toValue, valueOf}
 use Rattle.integers.specs.Outcome.{value}
 use Rattle.conditions.specs.Ast.{eval}
-use Rattle.conditions.specs.Table.{nodeOf, leafOf, LeafSound, rowOf, RowSound, LeafIs}
-use Rattle.conditions.specs.declared.Node.the-variants.{Leaf}
+use Rattle.conditions.specs.Table.{leafOf, LeafSound, rowOf, RowSound, LeafIs}
 
 null-word : (base : List ℕ) → valueOf base 0 ≡ null
 unfolding toValue
@@ -48,8 +47,3 @@ leaf-literal used w row r e s q = go (eqb (w / 2 ^ 56) 3) refl (rw (ne-eqb (w / 
           means = λ R base. rw (ne-eqb (w / 2 ^ 56) 4 e, f, q);
           within = rw q s;
         }
-
--- a word below kind 16 is a leaf
-pub leaf-node : (w : ℕ) → w < 1152921504606846976 → nodeOf w ≡ Leaf w
-unfolding nodeOf
-leaf-node w h = rw (lt-ltb (w / 2 ^ 56) 16 (omega arith))

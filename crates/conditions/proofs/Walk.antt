@@ -3,9 +3,8 @@
 use mathlib.Core.Path.{_≡_, refl, sym, ap, subst, _∙_}
 use mathlib.Core.List.{List, [], _∷_}
 use mathlib.Core.Bool.{Bool, true, false}
-use Prim.Native.Nat.{ℕ, zero, suc, _+_, _-_, _*_, _≤_, _<_}
+use Prim.Native.Nat.{ℕ, _+_, _-_, _*_, _≤_, _<_}
 use native.Mathlib.Omega.{arith}
-use native.Mathlib.Numerals.{sub-one}
 use lib.ListN.{length, take, getD}
 use lib.Seq.{length-take-le}
 use denote.Enum.Declared.{tagOf}
@@ -22,23 +21,12 @@ use Rattle.operators.specs.declared.Rules.{Rules}
 use Rattle.operators.proofs.ByKind.{plain-unary, plain-flag}
 use Rattle.operators.proofs.Holding.{holds-unary, holds-truth, value-int32}
 use Rattle.conditions.specs.Ast.{Tree, leaf, unary, binary, size, height, joins, eval, decides, twoSided}
-use Rattle.conditions.specs.Table.{nodeOf, leafOf, grow, treeOf, LeafSound, SoundAt, Sound, rowOf, RowSound, Asks, Says, Gives, Answers, LeafIs, Lies}
+use Rattle.conditions.specs.Table.{nodeOf, treeOf, LeafSound, rowOf, RowSound, Asks, Says, Gives, Answers, LeafIs, Lies}
 use Rattle.conditions.specs.declared.Node.the-variants.{Leaf, One, Two}
+use Rattle.conditions.proofs.Descent.{OneSound, TwoSound, sound-leaf, sound-one, sound-two}
 use Rattle.conditions.proofs.Giving.{handed-on, says-more, kept-trans, applied-gives, value-more}
 use Rattle.conditions.proofs.Lying.{lies-one, lies-two}
 use Rattle.conditions.proofs.Deciding.{holds-two-sided}
-
--- one step down
-pub sound-step : (u w d : ℕ) (nodes : List ℕ) (k : ℕ) → Sound u w d nodes k
-    → (0 < d) × (k < length nodes) × SoundAt u w (nodeOf (getD nodes k 0)) (Sound u w (d - 1) nodes) k
-unfolding Sound
-sound-step u w zero nodes k s = absurd s
-sound-step u w (suc d) nodes k s = (omega arith, s .0, rw (sub-one (suc d)) (s .1))
-
-pub tree-step : (base : List ℕ) (d : ℕ) (nodes : List ℕ) (k : ℕ) → 0 < d → treeOf base d nodes k ≡ grow base (nodeOf (getD nodes k 0)) (treeOf base (d - 1) nodes) k
-unfolding treeOf
-tree-step base zero nodes k h = absurd (omega arith)
-tree-step base (suc d) nodes k h = rw (sub-one (suc d))
 
 -- the answer of a tree read in `base`
 abbrev AnswersIn : (R : Rules) (base : List ℕ) (top d k : ℕ) (nodes row before after : List ℕ) → Answer → Type 0
@@ -50,12 +38,6 @@ abbrev Refusing : Answer → Type 0
 Refusing r = OneOf (1 ∷ 2 ∷ 3 ∷ []) (tagOf the-type r)
 
 module _ (R : Rules) (used top d k : ℕ) (nodes row text : List ℕ) (A : Asks R used top d k nodes row text) where
-  pub in-table : k < length nodes
-  in-table = sound-step _ _ _ _ _ (A .sound) .1
-
-  pub deep : 0 < d
-  deep = sound-step _ _ _ _ _ (A .sound) .0
-
   abbrev base : List ℕ
   base = take used text
 
@@ -63,19 +45,15 @@ module _ (R : Rules) (used top d k : ℕ) (nodes row text : List ℕ) (A : Asks 
   base-kept : (after : List ℕ) → take top after ≡ take top text → take used after ≡ base
   base-kept after e = kept-trans text text after used top (A .marks) refl e
 
-  step : SoundAt used (length row) (nodeOf (getD nodes k 0)) (Sound used (length row) (d - 1) nodes) k
-  step = sound-step _ _ _ _ _ (A .sound) .2
-
   pub leaf-sound : (w : ℕ) → nodeOf (getD nodes k 0) ≡ Leaf w → LeafSound used (length row) w × RowSound used row
-  leaf-sound w e = ((rw e at step), A .rows)
+  leaf-sound w e = (sound-leaf used (length row) d k nodes (A .sound) e .0, A .rows)
 
   pub leaf-answers : (w : ℕ) (c : ℕ) → nodeOf (getD nodes k 0) ≡ Leaf w → LeafIs used w row c → Answers R used top d k nodes row text text (Gave c top)
   leaf-answers w c e l =
-      let q : treeOf base d nodes k ≡ leaf (leafOf base w) = tree-step base d nodes k deep ∙ rw e in
       record {
         kept = refl;
         says = (
-          ap (eval R (rowOf base row)) q ∙ l .means R base ∙ ap value (sym (value-more used top text text c (A .marks) (l .within) refl)),
+          ap (eval R (rowOf base row)) (sound-leaf used (length row) d k nodes (A .sound) e .1 base) ∙ l .means R base ∙ ap value (sym (value-more used top text text c (A .marks) (l .within) refl)),
           inside-more used top c (A .marks) (l .within),
           omega arith,
           omega arith,
@@ -83,72 +61,56 @@ module _ (R : Rules) (used top d k : ℕ) (nodes row text : List ℕ) (A : Asks 
       }
 
   module _ (op : ℕ) (e : nodeOf (getD nodes k 0) ≡ One op) where
-    at-one : ((16 ≤ op) × (op < 19)) × (0 < k) × Sound used (length row) (d - 1) nodes (k - 1)
-    at-one = rw e at step
-
-    pub one-known : (16 ≤ op) × (op < 19)
-    one-known = at-one .0
-
-    pub one-below : 0 < k
-    one-below = at-one .1
-
-    one-tree : (b : List ℕ) → treeOf b d nodes k ≡ unary op (treeOf b (d - 1) nodes (k - 1))
-    one-tree b = tree-step b d nodes k deep ∙ rw e
+    -- the operator over its operand
+    abbrev one : OneSound used (length row) d k nodes op
+    one = sound-one used (length row) d k nodes (A .sound) e
 
     pub one-asks : Asks R used top (d - 1) (k - 1) nodes row text
     unfolding joins
-    one-asks = record { marks = A .marks; short = A .short; small = A .small; sound = at-one .2; rows = A .rows; room = rw (one-tree base) at (A .room) }
+    one-asks = record { marks = A .marks; short = A .short; small = A .small; sound = one .only; rows = A .rows; room = rw (one .tree base) at (A .room) }
 
     pub one-refused : (after : List ℕ) (r : Answer) → Refusing r → Answers R used top (d - 1) (k - 1) nodes row text after r → Answers R used top d k nodes row text after r
     unfolding eval
-    one-refused after r q g = record { kept = g .kept; says = rw (one-tree base) (handed-on after top _ top _ r _ _ q (g .says)) }
+    one-refused after r q g = record { kept = g .kept; says = rw (one .tree base) (handed-on after top _ top _ r _ _ q (g .says)) }
 
     pub one-answers : (after : List ℕ) (v t : ℕ) (r : Answer) → Answers R used top (d - 1) (k - 1) nodes row text after (Gave v t)
         → ((x : List ℕ) → WellFormed (length x) v → replyOf r ≡ placed t (unaryOf R op (valueOf x v))) → length after ≡ length text
         → Answers R used top d k nodes row text after r
     unfolding eval joins
     one-answers after v t r g f h =
-        let m : top + 1024 * joins (treeOf base (d - 1) nodes (k - 1)) ≤ length text = rw (one-tree base) at (A .room) in
+        let m : top + 1024 * joins (treeOf base (d - 1) nodes (k - 1)) ≤ length text = rw (one .tree base) at (A .room) in
         let i : t ≤ length after = omega (arith, g .says .3) in
         let x : WellFormed (length (take t after)) v = subst (λ n. WellFormed n v) (sym (length-take-le t after i)) (g .says .1) in
         let y : Applied after after t r (unaryOf R op (valueOf (take t after) v)) =
         record { reply = f (take t after) x; text = sym (plain-unary after t R op (valueOf (take t after) v) .same) } in
         let z = applied-gives after after t 0 0 i (rw h (A .small)) (omega arith) (omega arith) r _ (holds-unary 0 R op _) y in
-        record { kept = g .kept; says = rw (one-tree base, g .says .0) (says-more after top t 0 _ r _ (g .says .2) (omega (arith, g .says .3)) (z .says)) }
+        record { kept = g .kept; says = rw (one .tree base, g .says .0) (says-more after top t 0 _ r _ (g .says .2) (omega (arith, g .says .3)) (z .says)) }
 
     pub one-lies : (after : List ℕ) (v t : ℕ) (r : Answer) → Answers R used top (d - 1) (k - 1) nodes row text after (Gave v t)
         → ((x : List ℕ) → WellFormed (length x) v → replyOf r ≡ placed t (unaryOf R op (valueOf x v))) → length after ≡ length text
         → Lies top (nodeOf (getD nodes k 0)) row r
     unfolding joins
     one-lies after v t r g f h =
-        let m : top + 1024 * joins (treeOf base (d - 1) nodes (k - 1)) ≤ length text = rw (one-tree base) at (A .room) in
+        let m : top + 1024 * joins (treeOf base (d - 1) nodes (k - 1)) ≤ length text = rw (one .tree base) at (A .room) in
         let i : t ≤ length after = omega (arith, g .says .3) in
         let x : WellFormed (length (take t after)) v = subst (λ n. WellFormed n v) (sym (length-take-le t after i)) (g .says .1) in
         lies-one t 0 (omega arith) (omega (arith, A .small)) top op _ row _ r (g .says .2) e (holds-unary 0 R op (valueOf (take t after) v)) (f (take t after) x)
 
   module _ (op l : ℕ) (e : nodeOf (getD nodes k 0) ≡ Two op l) where
-    at-two : ((32 ≤ op) × (op < 50)) × (l < k) × Sound used (length row) (d - 1) nodes l × Sound used (length row) (d - 1) nodes (k - 1)
-    at-two = rw e at step
-
-    pub two-known : (32 ≤ op) × (op < 50)
-    two-known = at-two .0
-
-    pub two-below : 0 < k
-    two-below = omega (arith, at-two .1)
-
-    two-tree : (b : List ℕ) → treeOf b d nodes k ≡ binary op (treeOf b (d - 1) nodes l) (treeOf b (d - 1) nodes (k - 1))
-    two-tree b = tree-step b d nodes k deep ∙ rw e
+    -- the operator over its operands
+    abbrev two : TwoSound used (length row) d k nodes op l
+    two = sound-two used (length row) d k nodes (A .sound) e
 
     two-room : top + 1024 * (joins (treeOf base (d - 1) nodes l) + joins (treeOf base (d - 1) nodes (k - 1)) + 1) ≤ length text
     unfolding joins
-    two-room = rw (two-tree base) at (A .room)
+    two-room = rw (two .tree base) at (A .room)
 
     pub left-asks : Asks R used top (d - 1) l nodes row text
-    left-asks = record { marks = A .marks; short = A .short; small = A .small; sound = at-two .2; rows = A .rows; room = omega (arith, two-room) }
+    left-asks = record { marks = A .marks; short = A .short; small = A .small; sound = two .left; rows = A .rows; room = omega (arith, two-room) }
 
     pub left-refused : (after : List ℕ) (r : Answer) → Refusing r → Answers R used top (d - 1) l nodes row text after r → Answers R used top d k nodes row text after r
     unfolding eval
-    left-refused after r q g = record { kept = g .kept; says = rw (two-tree base) (handed-on after top _ top _ r _ _ q (g .says)) }
+    left-refused after r q g = record { kept = g .kept; says = rw (two .tree base) (handed-on after top _ top _ r _ _ q (g .says)) }
 
     -- the left operand has a value
     module _ (after : List ℕ) (v t : ℕ) (g : Answers R used top (d - 1) l nodes row text after (Gave v t)) (h : length after ≡ length text) where
@@ -170,7 +132,7 @@ module _ (R : Rules) (used top d k : ℕ) (nodes row text : List ℕ) (A : Asks 
             record {
               kept = g .kept;
               says =
-                  rw (two-tree base, g .says .0, z, ← j (take t after) left-within)
+                  rw (two .tree base, g .says .0, z, ← j (take t after) left-within)
                   (says-more after top t 0 _ (Gave c t) _ (g .says .2) (omega (arith, g .says .3)) (a .says));
             }
 
@@ -187,7 +149,7 @@ module _ (R : Rules) (used top d k : ℕ) (nodes row text : List ℕ) (A : Asks 
                 marks = omega (arith, A .marks, g .says .2);
                 short = A .short;
                 small = rw h (A .small);
-                sound = at-two .3;
+                sound = two .right;
                 rows = A .rows;
                 room = rw same-base (omega (arith, two-room, g .says .3));
               }
@@ -205,7 +167,7 @@ module _ (R : Rules) (used top d k : ℕ) (nodes row text : List ℕ) (A : Asks 
 
             pub right-refused : Refusing s → Answers R used top d k nodes row text last s
             unfolding eval
-            right-refused p = record { kept = kept-both; says = rw (two-tree base, g .says .0, undecided) (handed-on last t _ top _ s _ _ p (right-in .says)) }
+            right-refused p = record { kept = kept-both; says = rw (two .tree base, g .says .0, undecided) (handed-on last t _ top _ s _ _ p (right-in .says)) }
 
             -- the right operand has a value too
             module _ (w u : ℕ) (p : s ≡ Gave w u) (h₂ : length last ≡ length after) where
@@ -221,7 +183,7 @@ module _ (R : Rules) (used top d k : ℕ) (nodes row text : List ℕ) (A : Asks 
                   }
 
               pub join-asks : (32 ≤ op) × (op < 50) × Room R u (length last) × WellFormed u v × WellFormed u w
-              join-asks = (at-two .0 .0, at-two .0 .1, room-now, inside-more t u v (right-says .2) (g .says .1), right-says .1)
+              join-asks = (two .known .0, two .known .1, room-now, inside-more t u v (right-says .2) (g .says .1), right-says .1)
 
               pub two-answers : (end : List ℕ) (r : Answer) → Applied last end u r (twoSided R op (valueOf (take u last) v) (valueOf (take u last) w))
                   → Answers R used top d k nodes row text end r
@@ -232,7 +194,7 @@ module _ (R : Rules) (used top d k : ℕ) (nodes row text : List ℕ) (A : Asks 
                   record {
                     kept = kept-trans text last end top u (omega (arith, g .says .2, right-says .2)) kept-both (y .kept);
                     says =
-                        rw (two-tree base, g .says .0, undecided, right-says .0)
+                        rw (two .tree base, g .says .0, undecided, right-says .0)
                         (says-more end top u 1024 _ r _ (omega (arith, g .says .2, right-says .2)) (omega (arith, g .says .3, right-says .3)) (rw x at (y .says)));
                   }
 
@@ -249,7 +211,11 @@ height-pos (leaf w) = omega arith
 height-pos (unary op a) = omega arith
 height-pos (binary op a b) = omega arith
 
--- and a node
+-- a walk with the tree's height left may go one deeper
+pub depth-left : {depth : ℕ} (t : Tree ℕ) → height t ≤ depth → 0 < depth
+depth-left t h = omega (arith, height-pos t, h)
+
+-- every tree has a node
 pub size-pos : (t : Tree ℕ) → 1 ≤ size t
 unfolding size
 size-pos (leaf w) = omega arith

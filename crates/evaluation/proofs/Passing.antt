@@ -14,15 +14,12 @@ use Rattle.operators.specs.declared.Rules.{Rules}
 use Rattle.conditions.specs.Ast.{Tree, size}
 use Rattle.conditions.proofs.Giving.{value-more}
 use Rattle.nodes.specs.declared.Allowed.the-variants.{Bound}
-use Rattle.forms.specs.Form.{Parsed, tree, refusal, parsed}
+use Rattle.forms.specs.Form.{tree, parsed}
+use Rattle.forms.proofs.Unique.{one-tree}
 use Rattle.straight.specs.Straight.{Straight}
 use Rattle.evaluation.specs.Evaluation.{evaluation, stops, atZero, gave, LiesIn, EvaluatedIs}
 use Rattle.evaluation.specs.declared.Evaluated.the-variants.{Cell}
 use Rattle.evaluation.proofs.Stopping.{row-right, at-none}
-
-sizeOf : Parsed → ℕ
-sizeOf (tree t) = size t
-sizeOf (refusal number place) = 0
 
 module _ (R : Rules) (b row text : List ℕ) (used w : ℕ) (S : Straight b row text used w) where
   marked : used ≤ length text
@@ -41,9 +38,8 @@ module _ (R : Rules) (b row text : List ℕ) (used w : ℕ) (S : Straight b row 
   fine = subst (λ n. WellFormed n w) below (S .ran .fine)
 
   lies : (t : Tree ℕ) → parsed Bound used b ≡ tree t → LiesIn b row used (size t) w
-  unfolding sizeOf
   lies t e =
-      let q : size (S .ran .tree) ≡ size t = ap sizeOf (sym form ∙ e) in
+      let q : size (S .ran .tree) ≡ size t = ap size (one-tree form e) in
       record { own = λ o. absurd (omega (arith, S .ran .more)); above = λ l k. absurd (S .ran .plain k) }
 
   pub passed : EvaluatedIs R b row text text used (Cell w)

@@ -7,7 +7,7 @@ use Prim.Native.Nat.{ℕ, zero, suc, _+_, _-_, _*_, _^_, _/_, _%_, _≤_, _<_}
 use native.Mathlib.Omega.{arith}
 use lib.ListN.{length, take, getD}
 use lib.Seq.{take-length}
-use lib.Dec.{eqb, ltb}
+use lib.Dec.{eqb}
 use Rattle.refusals.specs.Stop.{stopOf}
 use Rattle.refusals.specs.declared.Refusal.{Refusal}
 use Rattle.cells.specs.Cell.{WellFormed, startOf, lengthOf}
@@ -19,13 +19,14 @@ use Rattle.integers.specs.declared.Answer.the-variants.{Gave, Overflow, ShiftAm
 use Rattle.operators.specs.declared.Rules.{Rules}
 use Rattle.conditions.specs.Ast.{Tree, Atom, leaf, unary, binary, mapTree, eval, height, size, joins}
 use Rattle.conditions.specs.Table.{nodeOf, leafOf, treeOf, rowOf, leafCell, LeafSound, Sound, Asks, Answers, LiesAt, Lies}
-use Rattle.conditions.specs.declared.Node.the-variants.{Leaf, One, Two}
+use Rattle.conditions.specs.declared.Node.the-variants.{Leaf}
+use Rattle.conditions.proofs.NodeKind.{leaf-self}
 use Rattle.conditions.proofs.Giving.{value-more}
 use Rattle.conditions.proofs.Walk.{height-pos}
 use Rattle.nodes.specs.Kind.{leafWord}
-use Rattle.forms.specs.Form.{Parsed, tree, refusal}
 use Rattle.forms.specs.Held.{LeafHeld, Denotes}
 use Rattle.forms.specs.declared.Scanned.the-variants.{Table}
+use Rattle.forms.proofs.Unique.{one-tree}
 use Rattle.evaluation.specs.Evaluation.{evaluation, stops, atZero, gave, LiesIn, EvaluatedIs, PreparedIs}
 use Rattle.evaluation.specs.declared.Evaluated.{Evaluated}
 use Rattle.evaluation.specs.declared.Evaluated.the-variants.{Cell, Refused}
@@ -83,15 +84,6 @@ joins-map f (leaf w) = refl
 joins-map f (unary op a) = joins-map f a
 joins-map f (binary op a b) = ap₂ (λ x y. x + y + 1) (joins-map f a) (joins-map f b)
 
-pub leaf-self : (x w : ℕ) → nodeOf x ≡ Leaf w → w ≡ x
-unfolding nodeOf
-leaf-self x w = by (ltb (x / 2 ^ 56) 16) (ltb (x / 2 ^ 56) 32)
-  where
-    by : (a b : Bool) → cond a (Leaf x) (cond b (One (x / 2 ^ 56)) (Two (x / 2 ^ 56) (x % 2 ^ 56))) ≡ Leaf w → w ≡ x
-    by true b e = cc
-    by false true e = absurd (let z : _≡_ {A = ℕ} 0 1 = cc in omega arith)
-    by false false e = absurd (let z : _≡_ {A = ℕ} 0 1 = cc in omega arith)
-
 -- where the cell lies, told of the tree
 module _ (used : ℕ) (nodes b row : List ℕ) (first : getD nodes 0 0 ≡ leafWord b 0 (getD b 0 0)) (w : ℕ) where
   own-leaf : (k x : ℕ) → k + 1 ≡ 1 → nodeOf (getD nodes k 0) ≡ Leaf x → LiesAt used (nodeOf (getD nodes k 0)) row w → LiesIn b row used 1 w
@@ -111,10 +103,6 @@ module _ (used : ℕ) (nodes b row : List ℕ) (first : getD nodes 0 0 ≡ leafW
     own = λ o. absurd (omega (arith, joins-size a, joins-size c));
     above = λ l. subst (λ n. LiesAt used n row w) (q .1) h;
   }
-
-sizeOf : Parsed → ℕ
-sizeOf (tree t) = size t
-sizeOf (refusal number place) = 0
 
 -- what the evaluation's answer is called here
 unfoldable pub answerOf : Answer → Evaluated
@@ -169,7 +157,7 @@ module _ (R : Rules) (limit : R .limit ≤ 1024) (b row text : List ℕ) (bytes 
 
   module _ (after : List ℕ) (size-kept : length after ≡ length text) where
     pub evaluated : (r : Answer) → Answers R used used 16 (n - 1) nodes row text after r → Lies used (nodeOf (getD nodes (n - 1) 0)) row r → EvaluatedIs R b row text after used (answerOf r)
-    unfolding answerOf sizeOf size
+    unfolding answerOf size
     evaluated (Gave w u) a l =
         let below : u ≤ length after = omega (arith, room, a .says .3, size-kept) in
         record {
@@ -177,7 +165,7 @@ module _ (R : Rules) (limit : R .limit ≤ 1024) (b row text : List ℕ) (bytes 
           says = (
             whole ∙ ap atZero (a .says .0) ∙ ap (λ v. gave v) (sym (value-more u (length after) after after w below (a .says .1) refl) ∙ ap (λ z. valueOf z w) (take-length after)),
             inside-more u (length after) w below (a .says .1),
-            λ s e. subst (λ m. LiesIn b row used m w) (ap sizeOf (sym (p .1 .1) ∙ e)) (lies-in used nodes b row (p .1 .7) w (n - 1) t k+1 held l),
+            λ s e. subst (λ m. LiesIn b row used m w) (ap size (one-tree (p .1 .1) e)) (lies-in used nodes b row (p .1 .7) w (n - 1) t k+1 held l),
           );
         }
     evaluated Overflow a l = record { kept = a .kept; says = whole ∙ ap atZero (a .says) }

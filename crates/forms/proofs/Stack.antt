@@ -6,31 +6,32 @@ use native.Mathlib.Omega.{arith}
 use native.Mathlib.Nat.{add-sub-cancel, pos-of-ne-zero}
 use lib.ListN.{length, getD, set}
 use lib.Seq.{getD-set-same, getD-set-other}
-use borrow.Author.Tests.{lt-ltb, le-ltb, le-leb, lt-leb}
+use borrow.Author.Tests.{le-leb, lt-leb}
 use Rattle.conditions.specs.Ast.{Tree, leaf, unary, binary, height, size}
 use Rattle.conditions.specs.Table.{nodeOf}
 use Rattle.conditions.specs.declared.Node.the-variants.{Leaf, One, Two}
+use Rattle.conditions.proofs.NodeKind.{node-leaf, node-one, node-two}
 use Rattle.conditions.proofs.Walk.{size-pos}
 use Rattle.forms.specs.Form.{stop, onOne, onTwo}
 use Rattle.forms.specs.Held.{LeafHeld, Denotes, Held, Marks, StepIs}
 use Rattle.forms.specs.declared.Step.the-variants.{Took}
 
--- the nodes of the words
+-- the node of a unary operator's word
 one-node : (k : ℕ) → 16 ≤ k → k < 32 → nodeOf (k * 2 ^ 56) ≡ One k
-unfolding nodeOf
-one-node k l u = let e : k * 2 ^ 56 / 2 ^ 56 ≡ k = omega arith in rw (e, le-ltb k 16 l, lt-ltb k 32 u)
+one-node k l u = let e : k * 2 ^ 56 / 2 ^ 56 ≡ k = omega arith in node-one (k * 2 ^ 56) (omega (arith, e, l)) (omega (arith, e, u)) ∙ ap One e
 
+-- the node of a two-sided operator's word, whose body is x
 two-node : (k x : ℕ) → 32 ≤ k → x < 2 ^ 56 → nodeOf (k * 2 ^ 56 + x) ≡ Two k x
-unfolding nodeOf
 two-node k x l u =
     let e : (k * 2 ^ 56 + x) / 2 ^ 56 ≡ k = omega arith in
     let f : (k * 2 ^ 56 + x) % 2 ^ 56 ≡ x = omega arith in
-    rw (e, f, le-ltb k 16 (omega arith), le-ltb k 32 l)
+    node-two (k * 2 ^ 56 + x) (omega (arith, e, l)) ∙ ap₂ Two e f
 
+-- the node of a leaf's word
 pub leaf-node : (k x : ℕ) → k < 16 → x < 2 ^ 56 → nodeOf (k * 2 ^ 56 + x) ≡ Leaf (k * 2 ^ 56 + x)
-unfolding nodeOf
-leaf-node k x l u = let e : (k * 2 ^ 56 + x) / 2 ^ 56 ≡ k = omega arith in rw (e, lt-ltb k 16 l)
+leaf-node k x l u = node-leaf (k * 2 ^ 56 + x) (omega (arith, l, u))
 
+-- a store at n is not seen below n
 other : (l : List ℕ) (n k w : ℕ) → k < n → getD (set l n w) k 0 ≡ getD l k 0
 other l n k w h = getD-set-other l n k w 0 (omega arith)
 
@@ -83,7 +84,7 @@ module _ (used : ℕ) (nodes starts deeps : List ℕ) (n : ℕ) (small : n < 64)
 
   pub one-held : (k : ℕ) (a : Tree ℕ) (s : List (Tree ℕ)) → 16 ≤ k → k < 19 → Held used nodes starts deeps n (a ∷ s) →
       Held used (set nodes n (k * 2 ^ 56)) (set starts n (getD starts (n - 1) 0)) (set deeps n (getD deeps (n - 1) 0 + 1)) (n + 1) (unary k a ∷ s)
-  unfolding Held Denotes size height nodeOf
+  unfolding Held Denotes size height
   one-held k a s l u h =
       let w : ℕ = k * 2 ^ 56 in
       held-push w (getD starts (n - 1) 0) (getD deeps (n - 1) 0 + 1) (unary k a) s (omega (arith, h .1)) (ap (λ x. x + 1) (h .2))

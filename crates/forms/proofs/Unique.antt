@@ -24,20 +24,21 @@ abbrev pub SameTable : ℕ → List ℕ → List ℕ → Scanned → Type 0
 SameTable used nodes nodes′ (Table n) = SameTree used n nodes nodes′
 SameTable used nodes nodes′ (Denied r) = Unit {0}
 
--- bytes have one tree
-pub one-tree : {t u : Tree ℕ} → _≡_ {A = Parsed} (tree t) (tree u) → t ≡ u
-one-tree e = cc
+-- what was parsed has one tree
+pub one-tree : {p : Parsed} {t t′ : Tree ℕ} → p ≡ tree t → p ≡ tree t′ → t ≡ t′
+one-tree e e′ = cc
 
--- a refusal of what was parsed, as a stop
+-- the refusal of what was parsed, as a stop
 stopIn : Parsed → stops.Stop
 stopIn (tree t) = stops.never
 stopIn (refusal number place) = stops.stop number place
 
+-- two answers, and the tables that they speak of
 pub one-scan : (used : ℕ) (b nodes nodes′ : List ℕ) (p : Parsed) (r s : Scanned) → ScanIs used b nodes r p → ScanIs used b nodes′ s p
     → (r ≡ s) × SameTable used nodes nodes′ r
 unfolding stopIn
 one-scan used b nodes nodes′ p (Table n) (Table m) (t, e, pos, long, few, low, held, first) (t′, e′, pos′, long′, few′, low′, held′, first′) =
-    let same : t′ ≡ t = one-tree (sym e′ ∙ e) in
+    let same : t′ ≡ t = one-tree e′ e in
     let count : m ≡ n = sym long′ ∙ ap size same ∙ long in (
       ap Table (sym count),
       record { whole = t; here = held; there = subst (λ x. Denotes used nodes′ (x - 1) t) count (subst (Denotes used nodes′ (m - 1)) same held′); first = first ∙ sym first′ },

@@ -2,7 +2,7 @@
 use mathlib.Core.Path.{_≡_, refl, sym, ap, subst, _∙_}
 use mathlib.Core.Bool.{Bool, true}
 use mathlib.Core.List.{List}
-use Prim.Native.Nat.{ℕ, _-_, _≤_, _<_}
+use Prim.Native.Nat.{ℕ, _-_, _≤_}
 use native.Mathlib.Omega.{arith}
 use lib.ListN.{length, take, getD}
 use lib.Seq.{length-take-le}
@@ -14,11 +14,11 @@ use Rattle.integers.specs.declared.Answer.the-variants.{Gave}
 use Rattle.operators.specs.Operator.{unaryOf}
 use Rattle.operators.specs.declared.Rules.{Rules}
 use Rattle.operators.proofs.Holding.{holds-unary, holds-truth}
-use Rattle.conditions.specs.Ast.{leaf, unary, binary, eval, decides}
-use Rattle.conditions.specs.Table.{nodeOf, leafOf, treeOf, LeafSound, SoundAt, Sound, rowOf, RowSound, LeafIs, Asks, Answers, Lies}
+use Rattle.conditions.specs.Ast.{eval, decides}
+use Rattle.conditions.specs.Table.{nodeOf, LeafSound, Sound, rowOf, RowSound, LeafIs, Asks, Answers, Lies}
 use Rattle.conditions.specs.declared.Node.the-variants.{Leaf, One, Two}
 use Rattle.conditions.proofs.Giving.{value-more}
-use Rattle.conditions.proofs.Walk.{sound-step, tree-step}
+use Rattle.conditions.proofs.Descent.{OneSound, TwoSound, sound-leaf, sound-one, sound-two}
 use Rattle.wordwise.specs.Settled.{nothing, Settled, onBoth}
 use Rattle.wordwise.proofs.Worth.{Worth, worth, holds-both}
 use Rattle.quick.specs.Quick.{Stands, Found}
@@ -26,74 +26,52 @@ use Rattle.quick.specs.Quick.{Stands, Found}
 -- ---- the tree at k
 
 module _ (d k : ℕ) (nodes row stored : List ℕ) (S : Stands d k nodes row stored) where
-  pub in-table : k < length nodes
-  in-table = sound-step _ _ _ _ _ (S .sound) .1
-
-  pub deep : 0 < d
-  deep = sound-step _ _ _ _ _ (S .sound) .0
-
-  step : SoundAt (length stored) (length row) (nodeOf (getD nodes k 0)) (Sound (length stored) (length row) (d - 1) nodes) k
-  step = sound-step _ _ _ _ _ (S .sound) .2
-
+  -- what a leaf asks
   pub leaf-sound : (w : ℕ) → nodeOf (getD nodes k 0) ≡ Leaf w → LeafSound (length stored) (length row) w × RowSound (length stored) row
-  leaf-sound w e = ((rw e at step), S .rows)
+  leaf-sound w e = (sound-leaf (length stored) (length row) d k nodes (S .sound) e .0, S .rows)
 
+  -- the leaf's word is the tree's
   pub leaf-found : (w c : ℕ) → nodeOf (getD nodes k 0) ≡ Leaf w → LeafIs (length stored) w row c → Found d k nodes row stored c
-  leaf-found w c e l =
-      let q : treeOf stored d nodes k ≡ leaf (leafOf stored w) = tree-step stored d nodes k deep ∙ rw e in
-      record {
-        means = λ R. ap (eval R (rowOf stored row)) q ∙ l .means R stored;
-        within = l .within;
-        lies = λ top. rw e (l .exact);
-      }
+  leaf-found w c e l = record {
+    means = λ R. ap (eval R (rowOf stored row)) (sound-leaf (length stored) (length row) d k nodes (S .sound) e .1 stored) ∙ l .means R stored;
+    within = l .within;
+    lies = λ top. rw e (l .exact);
+  }
 
   module _ (op : ℕ) (e : nodeOf (getD nodes k 0) ≡ One op) where
-    at-one : ((16 ≤ op) × (op < 19)) × (0 < k) × Sound (length stored) (length row) (d - 1) nodes (k - 1)
-    at-one = rw e at step
+    -- the operator over its operand
+    abbrev one : OneSound (length stored) (length row) d k nodes op
+    one = sound-one (length stored) (length row) d k nodes (S .sound) e
 
-    pub one-known : (16 ≤ op) × (op < 19)
-    one-known = at-one .0
-
-    pub one-below : 0 < k
-    one-below = at-one .1
-
+    -- the operand stands as the tree does
     pub one-stands : Stands (d - 1) (k - 1) nodes row stored
-    one-stands = record { sound = at-one .2; rows = S .rows }
+    one-stands = record { sound = one .only; rows = S .rows }
 
+    -- the operator's word from the operand's
     pub one-found : (v r : ℕ) → Found (d - 1) (k - 1) nodes row stored v → (r ≡ nothing → ⊥)
         → ((R : Rules) (x : List ℕ) → WellFormed (length x) v → Settled r (unaryOf R op (valueOf x v))) → Found d k nodes row stored r
     unfolding eval
     one-found v r g n f =
-        let q : treeOf stored d nodes k ≡ unary op (treeOf stored (d - 1) nodes (k - 1)) = tree-step stored d nodes k deep ∙ rw e in
         let z : (R : Rules) → Worth stored r (unaryOf R op (valueOf stored v)) = λ R. worth stored 0 r _ (holds-unary 0 R op _) n (f R stored (g .within)) in
         let y = z (record { limit = 0 }) in
         record {
-          means = λ R. rw (q, g .means R) (z R .means);
+          means = λ R. rw (one .tree stored, g .means R) (z R .means);
           within = y .within;
           lies = λ top. rw e (λ i. absurd (y .plain i));
         }
 
   module _ (op l : ℕ) (e : nodeOf (getD nodes k 0) ≡ Two op l) where
-    at-two : ((32 ≤ op) × (op < 50)) × (l < k) × Sound (length stored) (length row) (d - 1) nodes l × Sound (length stored) (length row) (d - 1) nodes (k - 1)
-    at-two = rw e at step
+    -- the operator over its operands
+    abbrev two : TwoSound (length stored) (length row) d k nodes op l
+    two = sound-two (length stored) (length row) d k nodes (S .sound) e
 
-    pub two-known : (32 ≤ op) × (op < 50)
-    two-known = at-two .0
-
-    pub left-below : l < k
-    left-below = at-two .1
-
-    pub two-below : 0 < k
-    two-below = omega (arith, at-two .1)
-
+    -- the left operand stands as the tree does
     pub left-stands : Stands (d - 1) l nodes row stored
-    left-stands = record { sound = at-two .2; rows = S .rows }
+    left-stands = record { sound = two .left; rows = S .rows }
 
+    -- so does the right one
     pub right-stands : Stands (d - 1) (k - 1) nodes row stored
-    right-stands = record { sound = at-two .3; rows = S .rows }
-
-    two-tree : treeOf stored d nodes k ≡ binary op (treeOf stored (d - 1) nodes l) (treeOf stored (d - 1) nodes (k - 1))
-    two-tree = tree-step stored d nodes k deep ∙ rw e
+    right-stands = record { sound = two .right; rows = S .rows }
 
     module _ (v : ℕ) (g : Found (d - 1) l nodes row stored v) where
       -- the left operand decides
@@ -103,7 +81,7 @@ module _ (d k : ℕ) (nodes row stored : List ℕ) (S : Stands d k nodes row sto
       left-found r y t j n f =
           let z = worth stored 0 r (value (fromBool y)) (holds-truth 0 y) n (record { told = λ m. f }) in
           record {
-            means = λ R. rw (two-tree, g .means R, t, ← j) (z .means);
+            means = λ R. rw (two .tree stored, g .means R, t, ← j) (z .means);
             within = z .within;
             lies = λ top. rw e (λ i. absurd (z .plain i));
           }
@@ -116,7 +94,7 @@ module _ (d k : ℕ) (nodes row stored : List ℕ) (S : Stands d k nodes row sto
           let z : (R : Rules) → Worth stored r (onBoth R op (valueOf stored v) (valueOf stored w)) = λ R. worth stored (R .limit) r _ (holds-both R op stored v w) n (f R) in
           let y = z (record { limit = 0 }) in
           record {
-            means = λ R. rw (two-tree, g .means R, i .means R) (z R .means);
+            means = λ R. rw (two .tree stored, g .means R, i .means R) (z R .means);
             within = y .within;
             lies = λ top. rw e (λ j. absurd (y .plain j));
           }

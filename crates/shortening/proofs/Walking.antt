@@ -1,7 +1,7 @@
 -- The laws of the walk over the table of nodes: what a tree asks of its operands, and how folded operands make the folded tree. Assumes nothing.
 use mathlib.Core.Path.{_≡_, refl, sym, ap, ap₂, subst, _∙_}
 use mathlib.Core.List.{List, [], _∷_, _++_, append-assoc}
-use Prim.Native.Nat.{ℕ, _+_, _-_, _*_, _^_, _≤_, _<_}
+use Prim.Native.Nat.{ℕ, _+_, _-_, _^_, _≤_, _<_}
 use native.Mathlib.Omega.{arith}
 use lib.ListN.{length, take, getD, length-append}
 use lib.Seq.{length-take-le}
@@ -10,11 +10,26 @@ use Rattle.slices.specs.Splice.{Wrote}
 use Rattle.slices.proofs.Splice.{wrote-front}
 use Rattle.cells.specs.Cell.{WellFormed, kindOf}
 use Rattle.operators.specs.declared.Rules.{Rules}
-use Rattle.conditions.specs.Ast.{Tree, leaf, binary, size, height, joins}
+use Rattle.conditions.specs.Ast.{Tree, leaf}
 use Rattle.conditions.specs.Table.{nodeOf}
 use Rattle.conditions.specs.declared.Node.the-variants.{Leaf, One, Two}
 use Rattle.conditions.proofs.Giving.{kept-trans}
-use Rattle.forms.proofs.Denoting.{OneAt, TwoAt, leaf-at, one-at, two-at}
+use Rattle.forms.specs.Held.{LeafHeld}
+use Rattle.forms.proofs.Denoting.{
+  OneAt,
+  TwoAt,
+  leaf-at,
+  one-at,
+  two-at,
+  leaf-size,
+  one-size,
+  one-height,
+  one-joins,
+  two-size,
+  two-height,
+  two-joins,
+  right-below,
+}
 use Rattle.postfix.specs.Postfix.{leafBytes, bytesOf, width}
 use Rattle.postfix.proofs.Reading.{width-size, leaf-width}
 use Rattle.replacing.specs.Fold.{Folding, andFold, fold, foldOne, foldTwo}
@@ -34,9 +49,6 @@ handed-on front n m top before after out r x f g e h =
     record { kept = h .kept; says = subst (λ y. Says front m after out y (andFold f g)) (sym e) (ap (λ y. andFold y g) s) }
 
 module _ (R : Rules) (used top depth k at end : ℕ) (nodes text out : List ℕ) (t : Tree ℕ) (A : FoldAsks R used top depth k at end nodes text out t) where
-  pub in-table : k < length nodes
-  in-table = A .inside
-
   abbrev pub s₀ : List ℕ
   s₀ = take top text
 
@@ -51,35 +63,38 @@ module _ (R : Rules) (used top depth k at end : ℕ) (nodes text out : List ℕ)
 
   -- a leaf
   module _ (w : ℕ) (e : nodeOf (getD nodes k 0) ≡ Leaf w) where
+    -- the tree is the leaf
+    is-leaf : (t ≡ leaf w) × LeafHeld used w
+    is-leaf = leaf-at used k nodes t w (A .denotes) e
+
+    -- there is space for its bytes
     pub leaf-space : end + length (leafBytes w) ≤ length out
-    unfolding size
-    leaf-space = let q : end + 7 * size (leaf w) ≤ length out = subst (λ y. end + 7 * size y ≤ length out) (leaf-at used k nodes t w (A .denotes) e .0) (A .space) in omega (arith, leaf-width w)
+    leaf-space = omega (arith, leaf-size (is-leaf .0), A .space, leaf-width w)
 
+    -- the offset after them is one of the condition's
     pub leaf-early : (after : ℕ) → after ≡ end + length (leafBytes w) → at + (after - end) < 2 ^ 64
-    unfolding size
-    leaf-early after p = let q : at + 7 * size (leaf w) ≤ 448 = subst (λ y. at + 7 * size y ≤ 448) (leaf-at used k nodes t w (A .denotes) e .0) (A .early) in omega (arith, leaf-width w)
+    leaf-early after p = omega (arith, leaf-size (is-leaf .0), A .early, leaf-width w)
 
+    -- a leaf is folded already
     pub leaf-gives : (after : ℕ) (out′ : List ℕ) → Wrote out end (leafBytes w) after out′ → Gives front (at + width t) top text text out′ (Folded w after top (at + (after - end))) (fold R at t s₀)
     unfolding fold bytesOf AllHeld
-    leaf-gives after out′ wr =
-        let q = leaf-at used k nodes t w (A .denotes) e in
+    leaf-gives after out′ wr = record {
+      kept = refl;
+      says = rw (is-leaf .0) (
+        leaf w,
+        s₀,
+        refl,
         record {
-          kept = refl;
-          says = rw (q .0) (
-            leaf w,
-            s₀,
-            refl,
-            record {
-              last = refl;
-              rooted = tt;
-              held = held-higher used (length s₀) (leaf w) (omega (arith, A .marks, long)) (q .1);
-              place = wr .place ∙ ap (λ n. n + length (leafBytes w)) ahead;
-              bytes = wrote-front wr;
-            },
-            record { long = long; below = refl },
-            (let z : after ≡ end + length (leafBytes w) = wr .place in omega arith),
-          );
-        }
+          last = refl;
+          rooted = tt;
+          held = held-higher used (length s₀) (leaf w) (omega (arith, A .marks, long)) (is-leaf .1);
+          place = wr .place ∙ ap (λ n. n + length (leafBytes w)) ahead;
+          bytes = wrote-front wr;
+        },
+        record { long = long; below = refl },
+        (let z : after ≡ end + length (leafBytes w) = wr .place in omega arith),
+      );
+    }
 
   -- a unary operator
   module _ (op : ℕ) (e : nodeOf (getD nodes k 0) ≡ One op) where
@@ -92,32 +107,17 @@ module _ (R : Rules) (used top depth k at end : ℕ) (nodes text out : List ℕ)
     pub one-below : 0 < k
     one-below = one .below
 
-    one-deep : height a + 1 ≤ depth
-    unfolding height
-    one-deep = subst (λ y. height y ≤ depth) (one .whole) (A .deep)
-
-    one-joins : joins t ≡ joins a
-    unfolding joins
-    one-joins = ap joins (one .whole)
-
-    one-size : size t ≡ size a + 1
-    unfolding size
-    one-size = ap size (one .whole)
-
-    pub one-depth : 0 < depth
-    one-depth = omega (arith, one-deep)
-
     pub one-asks : FoldAsks R used top (depth - 1) (k - 1) at end nodes text out a
     one-asks = record {
       marks = A .marks;
       short = A .short;
       small = A .small;
       denotes = one .denotes;
-      deep = omega (arith, one-deep);
+      deep = omega (arith, one-height one, A .deep);
       inside = omega (arith, A .inside);
-      room = omega (arith, A .room, one-joins);
-      space = omega (arith, A .space, one-size);
-      early = omega (arith, A .early, one-size);
+      room = omega (arith, A .room, one-joins one);
+      space = omega (arith, A .space, one-size one);
+      early = omega (arith, A .early, one-size one);
     }
 
     one-fold : fold R at t s₀ ≡ andFold (fold R at a s₀) (λ x s. foldOne R (at + width a) op x s)
@@ -141,13 +141,13 @@ module _ (R : Rules) (used top depth k at end : ℕ) (nodes text out : List ℕ)
         pub one-requires : ((16 ≤ op) × (op < 19)) × (end + 7 ≤ length out₁) × (after < length out₁) × (place < 448)
         one-requires = (
           one .known,
-          omega (arith, A .space, one-size, keep),
-          omega (arith, A .space, one-size, keep, after-is, width-size (said .0), grew .small),
-          omega (arith, A .early, one-size, said .5, width-size a),
+          omega (arith, A .space, one-size one, keep),
+          omega (arith, A .space, one-size one, keep, after-is, width-size (said .0), grew .small),
+          omega (arith, A .early, one-size one, said .5, width-size a),
         )
 
         small-text : length (said .1) ≤ 65536
-        small-text = omega (arith, grew .few, long, A .room, A .small, one-joins)
+        small-text = omega (arith, grew .few, long, A .room, A .small, one-joins one)
 
         pub one-gives : (q : Part) (out₂ : List ℕ)
             → ((x : Tree ℕ) (s text front : List ℕ) → Stands front x s word after out₁ → Stored text s u → length s ≤ 65536 → end ≡ length front → Says front (place + 1) text out₂ q (foldOne R place op x s))
@@ -170,22 +170,7 @@ module _ (R : Rules) (used top depth k at end : ℕ) (nodes text out : List ℕ)
     aᵣ = two .right
 
     pub two-below : 0 < k
-    two-below = omega (arith, two .below)
-
-    two-deep : (height aₗ + 1 ≤ depth) × (height aᵣ + 1 ≤ depth)
-    unfolding height
-    two-deep = let q : height (binary op aₗ aᵣ) ≤ depth = subst (λ y. height y ≤ depth) (two .whole) (A .deep) in (omega arith, omega arith)
-
-    two-joins : joins t ≡ joins aₗ + joins aᵣ + 1
-    unfolding joins
-    two-joins = ap joins (two .whole)
-
-    two-size : size t ≡ size aₗ + size aᵣ + 1
-    unfolding size
-    two-size = ap size (two .whole)
-
-    pub two-depth : 0 < depth
-    two-depth = omega (arith, two-deep .0)
+    two-below = right-below two
 
     pub left-asks : FoldAsks R used top (depth - 1) l at end nodes text out aₗ
     left-asks = record {
@@ -193,11 +178,11 @@ module _ (R : Rules) (used top depth k at end : ℕ) (nodes text out : List ℕ)
       short = A .short;
       small = A .small;
       denotes = two .left-denotes;
-      deep = omega (arith, two-deep .0);
+      deep = omega (arith, two-height two, A .deep);
       inside = omega (arith, A .inside, two .below);
-      room = omega (arith, A .room, two-joins);
-      space = omega (arith, A .space, two-size);
-      early = omega (arith, A .early, two-size);
+      room = omega (arith, A .room, two-joins two);
+      space = omega (arith, A .space, two-size two);
+      early = omega (arith, A .early, two-size two);
     }
 
     two-fold : fold R at t s₀ ≡ andFold (fold R at aₗ s₀) (λ x s. andFold (fold R (at + width aₗ) aᵣ s) (λ y s′. foldTwo R (at + width aₗ + width aᵣ) op x y s′))
@@ -227,11 +212,11 @@ module _ (R : Rules) (used top depth k at end : ℕ) (nodes text out : List ℕ)
           short = A .short;
           small = omega (arith, A .small, keep-text);
           denotes = two .right-denotes;
-          deep = omega (arith, two-deep .1);
+          deep = omega (arith, two-height two, A .deep);
           inside = omega (arith, A .inside);
-          room = omega (arith, A .room, two-joins, left-grew .few, long, left-said .4 .long, keep-text);
-          space = omega (arith, A .space, two-size, middle-is, width-size (left-said .0), left-grew .small, keep);
-          early = omega (arith, A .early, two-size, left-said .5, width-size aₗ);
+          room = omega (arith, A .room, two-joins two, left-grew .few, long, left-said .4 .long, keep-text);
+          space = omega (arith, A .space, two-size two, middle-is, width-size (left-said .0), left-grew .small, keep);
+          early = omega (arith, A .early, two-size two, left-said .5, width-size aₗ);
         }
 
         module _ (text₂ out₂ : List ℕ) (r₂ : Part) (g₂ : Gives (take middle out₁) (next + width aᵣ) u text₁ text₂ out₂ r₂ (fold R next aᵣ (take u text₁))) where
@@ -287,15 +272,15 @@ module _ (R : Rules) (used top depth k at end : ℕ) (nodes text out : List ℕ)
             two-asks = record {
               known = two .known;
               room = record {
-                above = omega (arith, A .short, A .room, two-joins, left-grew .few, right-grew .few, long, left-said .4 .long, right-said .4 .long, stored-is, keep-text, keep-text₂);
+                above = omega (arith, A .short, A .room, two-joins two, left-grew .few, right-grew .few, long, left-said .4 .long, right-said .4 .long, stored-is, keep-text, keep-text₂);
                 short = A .short;
                 small = omega (arith, A .small, keep-text, keep-text₂);
               };
               left-well = λ h. well (left-said .0) left (standing .left-last) (standing .left-rooted) h (standing .left-held);
               right-well = λ h. well (right-said .0) right (standing .right-last) (standing .right-rooted) h (standing .right-held);
-              start-space = omega (arith, A .space, two-size, keep, keep₂);
-              end-space = omega (arith, A .space, two-size, keep, keep₂, end-is, middle-is, width-size (left-said .0), left-grew .small, width-size (right-said .0), right-grew .small);
-              early = omega (arith, A .early, two-size, left-said .5, right-said .5, width-size aₗ, width-size aᵣ);
+              start-space = omega (arith, A .space, two-size two, keep, keep₂);
+              end-space = omega (arith, A .space, two-size two, keep, keep₂, end-is, middle-is, width-size (left-said .0), left-grew .small, width-size (right-said .0), right-grew .small);
+              early = omega (arith, A .early, two-size two, left-said .5, right-said .5, width-size aₗ, width-size aᵣ);
             }
               where
                 well : (x : Tree ℕ) (w : ℕ) → w ≡ root x → Rooted x → kindOf w < 3 → AllHeld (length (right-said .1)) x → WellFormed v w

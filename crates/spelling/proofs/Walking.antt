@@ -1,19 +1,18 @@
 -- The laws of the walk: what a tree asks of its operands, and how their printed texts make the tree's. Assumes nothing.
-use mathlib.Core.Path.{_≡_, refl, ap}
+use mathlib.Core.Path.{_≡_, refl}
 use mathlib.Core.Bool.{Bool, true, false, cond}
 use mathlib.Core.List.{List, [], _∷_, _++_, append-nil}
-use Prim.Native.Nat.{ℕ, _+_, _-_, _*_, _^_, _≤_, _<_, max}
+use Prim.Native.Nat.{ℕ, _+_, _-_, _*_, _^_, _≤_, _<_}
 use native.Mathlib.Omega.{arith}
 use lib.ListN.{length, getD, length-append}
 use lib.Dec.{ltb}
 use Rattle.puts.specs.Put.{Puts}
 use Rattle.puts.proofs.Putting.{puts-then, either}
-use Rattle.conditions.specs.Ast.{Tree, leaf, unary, binary, mapTree, size, height}
+use Rattle.conditions.specs.Ast.{Tree, leaf, unary, binary, mapTree, size}
 use Rattle.conditions.specs.Table.{nodeOf, leafOf}
 use Rattle.conditions.specs.declared.Node.the-variants.{Leaf, One, Two}
-use Rattle.conditions.proofs.Walk.{height-pos}
 use Rattle.forms.specs.Held.{LeafHeld}
-use Rattle.forms.proofs.Denoting.{leaf-at, one-at, two-at}
+use Rattle.forms.proofs.Denoting.{OneAt, TwoAt, leaf-at, one-at, two-at, leaf-size, one-size, one-height, two-size, two-height, right-below}
 use Rattle.signs.specs.Sign.{precedence, spaced, prefix}
 use Rattle.signs.proofs.Lengths.{spaced-short, prefix-short}
 use Rattle.spelling.specs.Spell.{parenthesised, printedAtom, printed}
@@ -45,14 +44,6 @@ printed-short stored asked (binary op a b) =
 -- ---- the walk
 
 module _ {stored nodes : List ℕ} {k depth at : ℕ} {t : Tree ℕ} (A : PrintAsks stored nodes k depth at t) where
-  -- the node is one of the table's
-  pub in-table : k < length nodes
-  in-table = A .inside
-
-  -- a call may go one deeper
-  pub deeper : 0 < depth
-  deeper = omega (arith, height-pos t, A .deep)
-
   -- what a tree prints
   abbrev text : ℕ → Tree ℕ → List ℕ
   text asked s = printed asked (mapTree (leafOf stored) s)
@@ -64,8 +55,7 @@ module _ {stored nodes : List ℕ} {k depth at : ℕ} {t : Tree ℕ} (A : PrintA
 
     -- what the leaf asks
     pub leaf-asks : LeafHeld (length stored) w × (at + 400000 < 2 ^ 64)
-    unfolding size
-    leaf-asks = let q : size t ≡ 1 = ap size (is-leaf .0) in (is-leaf .1, omega (arith, A .room))
+    leaf-asks = (is-leaf .1, omega (arith, leaf-size (is-leaf .0), A .room))
 
     -- the leaf's text is the tree's
     pub leaf-puts : (asked : ℕ) {out : List ℕ} {r : ℕ} {out₁ : List ℕ} → Puts out at (printedAtom (leafOf stored w)) r out₁ → Puts out at (text asked t) r out₁
@@ -73,40 +63,30 @@ module _ {stored nodes : List ℕ} {k depth at : ℕ} {t : Tree ℕ} (A : PrintA
     leaf-puts asked p = rw (is-leaf .0) p
 
   module _ {op : ℕ} (e : nodeOf (getD nodes k 0) ≡ One op) where
+    -- the operator over its operand
+    abbrev one : OneAt (length stored) k nodes op t
+    one = one-at (length stored) k nodes t op (A .denotes) e
+
     -- the operand
     abbrev only : Tree ℕ
-    only = one-at (length stored) k nodes t op (A .denotes) e .only
-
-    -- the tree is the operator over it
-    one-tree : t ≡ unary op only
-    one-tree = one-at (length stored) k nodes t op (A .denotes) e .whole
+    only = one .only
 
     -- the operand stands before it
     pub one-below : 0 < k
-    one-below = one-at (length stored) k nodes t op (A .denotes) e .below
-
-    -- one node more
-    one-size : size t ≡ size only + 1
-    unfolding size
-    one-size = ap size one-tree
-
-    -- one higher
-    one-height : height t ≡ height only + 1
-    unfolding height
-    one-height = ap height one-tree
+    one-below = one .below
 
     -- there is room for what stands before the operand
     pub one-room : at + 4 < 2 ^ 64
-    one-room = omega (arith, A .room, one-size)
+    one-room = omega (arith, A .room, one-size one)
 
     module _ {out : List ℕ} {next : ℕ} {out₁ : List ℕ} (p : Puts out at (prefix op) next out₁) where
       -- what the operand asks
       only-asks : PrintAsks stored nodes (k - 1) (depth - 1) next only
       only-asks = record {
-        denotes = one-at (length stored) k nodes t op (A .denotes) e .denotes;
-        deep = omega (arith, one-height, A .deep);
+        denotes = one .denotes;
+        deep = omega (arith, one-height one, A .deep);
         inside = omega (arith, A .inside);
-        room = omega (arith, one-size, A .room, p .place, prefix-short op);
+        room = omega (arith, one-size one, A .room, p .place, prefix-short op);
       }
 
       -- as the contract has it
@@ -117,42 +97,28 @@ module _ {stored nodes : List ℕ} {k depth at : ℕ} {t : Tree ℕ} (A : PrintA
       pub one-puts : (asked : ℕ) {r : ℕ} {out₂ : List ℕ} → ((s : Tree ℕ) → PrintAsks stored nodes (k - 1) (depth - 1) next s → Puts out₁ next (text 10 s) r out₂)
           → Puts out at (text asked t) r out₂
       unfolding printed mapTree
-      one-puts asked f = rw one-tree (puts-then p (f only only-asks))
+      one-puts asked f = rw (one .whole) (puts-then p (f only only-asks))
 
   module _ {op l : ℕ} (e : nodeOf (getD nodes k 0) ≡ Two op l) where
+    -- the operator over its operands
+    abbrev two : TwoAt (length stored) k nodes op l t
+    two = two-at (length stored) k nodes t op l (A .denotes) e
+
     -- the left operand
     abbrev left : Tree ℕ
-    left = two-at (length stored) k nodes t op l (A .denotes) e .left
+    left = two .left
 
     -- the right operand
     abbrev right : Tree ℕ
-    right = two-at (length stored) k nodes t op l (A .denotes) e .right
+    right = two .right
 
-    -- the tree is the operator over them
-    two-tree : t ≡ binary op left right
-    two-tree = two-at (length stored) k nodes t op l (A .denotes) e .whole
-
-    -- the left operand stands before it
-    left-below : l < k
-    left-below = two-at (length stored) k nodes t op l (A .denotes) e .below
-
-    -- so does the right one
+    -- the right operand stands before it
     pub two-below : 0 < k
-    two-below = omega (arith, left-below)
-
-    -- one node more than both
-    two-size : size t ≡ size left + size right + 1
-    unfolding size
-    two-size = ap size two-tree
-
-    -- one higher than the higher
-    two-height : height t ≡ max (height left) (height right) + 1
-    unfolding height
-    two-height = ap height two-tree
+    two-below = right-below two
 
     -- there is room for a parenthesis
     pub open-room : at + 1 < 2 ^ 64
-    open-room = omega (arith, A .room, two-size)
+    open-room = omega (arith, A .room, two-size two)
 
     -- a parenthesis may stand before the left operand
     module _ (test : Bool) {out : List ℕ} {from : ℕ} {out₁ : List ℕ} (p : Puts out at (cond test (40 ∷ []) []) from out₁) where
@@ -163,10 +129,10 @@ module _ {stored nodes : List ℕ} {k depth at : ℕ} {t : Tree ℕ} (A : PrintA
       -- what the left operand asks
       left-asked : PrintAsks stored nodes l (depth - 1) from left
       left-asked = record {
-        denotes = two-at (length stored) k nodes t op l (A .denotes) e .left-denotes;
-        deep = omega (arith, two-height, A .deep);
-        inside = omega (arith, A .inside, left-below);
-        room = omega (arith, two-size, A .room, from-near);
+        denotes = two .left-denotes;
+        deep = omega (arith, two-height two, A .deep);
+        inside = omega (arith, A .inside, two .below);
+        room = omega (arith, two-size two, A .room, from-near);
       }
 
       -- as the contract has it
@@ -182,7 +148,7 @@ module _ {stored nodes : List ℕ} {k depth at : ℕ} {t : Tree ℕ} (A : PrintA
 
         -- there is room for the sign
         pub sign-room : middle + 5 < 2 ^ 64
-        sign-room = omega (arith, A .room, two-size, middle-near)
+        sign-room = omega (arith, A .room, two-size two, middle-near)
 
         module _ {next : ℕ} {out₃ : List ℕ} (s : Puts out₂ middle (spaced op) next out₃) where
           -- the place after the sign
@@ -192,10 +158,10 @@ module _ {stored nodes : List ℕ} {k depth at : ℕ} {t : Tree ℕ} (A : PrintA
           -- what the right operand asks
           right-asked : PrintAsks stored nodes (k - 1) (depth - 1) next right
           right-asked = record {
-            denotes = two-at (length stored) k nodes t op l (A .denotes) e .right-denotes;
-            deep = omega (arith, two-height, A .deep);
+            denotes = two .right-denotes;
+            deep = omega (arith, two-height two, A .deep);
             inside = omega (arith, A .inside);
-            room = omega (arith, two-size, A .room, next-near);
+            room = omega (arith, two-size two, A .room, next-near);
           }
 
           -- as the contract has it
@@ -207,7 +173,7 @@ module _ {stored nodes : List ℕ} {k depth at : ℕ} {t : Tree ℕ} (A : PrintA
               (g : (s : Tree ℕ) → PrintAsks stored nodes (k - 1) (depth - 1) next s → Puts out₃ next (text (own + 1) s) end out₄) where
             -- there is room for a parenthesis
             pub close-room : end + 1 < 2 ^ 64
-            close-room = omega (arith, A .room, two-size, next-near, g right right-asked .place, printed-short stored (own + 1) right)
+            close-room = omega (arith, A .room, two-size two, next-near, g right right-asked .place, printed-short stored (own + 1) right)
 
             -- all of it is the tree's text
             pub operator-puts : (asked : ℕ) → own ≡ precedence op → test ≡ ltb own asked → {r : ℕ} {out₅ : List ℕ} → Puts out₄ end (cond test (41 ∷ []) []) r out₅
@@ -217,4 +183,4 @@ module _ {stored nodes : List ℕ} {k depth at : ℕ} {t : Tree ℕ} (A : PrintA
                 let whole : List ℕ = text own left ++ (spaced op ++ text (own + 1) right) in
                 let put = puts-then p (puts-then (puts-then (f left left-asked) (puts-then s (g right right-asked))) c) in
                 let n : parenthesised test whole ≡ text asked (binary op left right) = rw (b, q) in
-                rw (two-tree, ← n, ← in-parentheses test whole) put
+                rw (two .whole, ← n, ← in-parentheses test whole) put

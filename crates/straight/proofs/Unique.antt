@@ -21,7 +21,7 @@ module _ (b row stored : List ℕ) (w w′ : ℕ) where
   -- both words mean it
   same-value : Ran b row stored w → Ran b row stored w′ → valueOf stored w ≡ valueOf stored w′
   same-value h k =
-      let t : h .tree ≡ k .tree = one-tree (sym (h .form) ∙ k .form) in
+      let t : h .tree ≡ k .tree = one-tree (h .form) (k .form) in
       one-value (sym (h .means (record { limit = 0 })) ∙ ap meaning t ∙ k .means (record { limit = 0 }))
 
   -- no text is told, and any other value has one word

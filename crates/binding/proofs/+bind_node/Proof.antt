@@ -4,8 +4,8 @@ use borrow.Author.Needs.{needs, scaled-fits}
 use native.Mathlib.Omega.{arith}
 use mathlib.Core.Path.{sym, _∙_}
 use lib.ListN.{length-set}
+use Rattle.conditions.proofs.Walk.{depth-left}
 use Rattle.binding.proofs.Walking.{
-  deep,
   leaf-asks,
   leaf-bound,
   one-known,
@@ -71,10 +71,10 @@ bind-node-sub-bind-node : (t : ℕ) → bind-node-lts.Need-sub-bind-node (rs t) 
 bind-node-sub-bind-node t c = one-below (c .before .before .before .before .before .before .before .before .before .pre .1 .1) (sym (c .before .before .before .node-of .ensures) ∙ c .before .op .given .1)
 
 bind-node-sub-bind-node-2 : (t : ℕ) → bind-node-lts.Need-sub-bind-node-2 (rs t) (bind-node-at t) bind-node.Post
-bind-node-sub-bind-node-2 t c = deep (c .before .before .before .before .before .before .before .before .before .pre .1 .1)
+bind-node-sub-bind-node-2 t c = depth-left _ (c .before .before .before .before .before .before .before .before .before .pre .1 .1 .deep)
 
 bind-node-bind-node-requires : (t : ℕ) → bind-node-lts.Need-bind-node-requires (rs t) (bind-node-at t) bind-node.Post
-bind-node-bind-node-requires t c κs = (omega (arith, c .before .before .before .before .before .before .before .before .before .before .pre .0, deep (c .before .before .before .before .before .before .before .before .before .before .pre .1 .1)), one-asks (c .before .before .before .before .before .before .before .before .before .before .pre .1 .1) (sym (c .before .before .before .before .node-of .ensures) ∙ c .before .before .op .given .1))
+bind-node-bind-node-requires t c κs = (omega (arith, c .before .before .before .before .before .before .before .before .before .before .pre .0, depth-left _ (c .before .before .before .before .before .before .before .before .before .before .pre .1 .1 .deep)), one-asks (c .before .before .before .before .before .before .before .before .before .before .pre .1 .1) (sym (c .before .before .before .before .node-of .ensures) ∙ c .before .before .op .given .1))
 
 bind-node-enum-known-a : (t : ℕ) → bind-node-lts.Need-enum-known-a (rs t) (bind-node-at t) bind-node.Post
 bind-node-enum-known-a t c = search needs
@@ -104,10 +104,10 @@ bind-node-enum-known-op-2 : (t : ℕ) → bind-node-lts.Need-enum-known-op-2 (rs
 bind-node-enum-known-op-2 t c = search needs
 
 bind-node-sub-bind-node-3 : (t : ℕ) → bind-node-lts.Need-sub-bind-node-3 (rs t) (bind-node-at t) bind-node.Post
-bind-node-sub-bind-node-3 t c = deep (c .before .before .before .before .before .before .before .before .before .pre .1 .1)
+bind-node-sub-bind-node-3 t c = depth-left _ (c .before .before .before .before .before .before .before .before .before .pre .1 .1 .deep)
 
 bind-node-bind-node-requires-2 : (t : ℕ) → bind-node-lts.Need-bind-node-requires-2 (rs t) (bind-node-at t) bind-node.Post
-bind-node-bind-node-requires-2 t c κs = (omega (arith, c .before .before .before .before .before .before .before .before .before .before .pre .0, deep (c .before .before .before .before .before .before .before .before .before .before .pre .1 .1)), left-asks (c .before .before .before .before .before .before .before .before .before .before .pre .1 .1) (sym (c .before .before .before .before .node-of .ensures) ∙ c .before .before .op2 .given .1))
+bind-node-bind-node-requires-2 t c κs = (omega (arith, c .before .before .before .before .before .before .before .before .before .before .pre .0, depth-left _ (c .before .before .before .before .before .before .before .before .before .before .pre .1 .1 .deep)), left-asks (c .before .before .before .before .before .before .before .before .before .before .pre .1 .1) (sym (c .before .before .before .before .node-of .ensures) ∙ c .before .before .op2 .given .1))
 
 bind-node-enum-known-a-2 : (t : ℕ) → bind-node-lts.Need-enum-known-a-2 (rs t) (bind-node-at t) bind-node.Post
 bind-node-enum-known-a-2 t c = search needs
@@ -125,10 +125,10 @@ bind-node-sub-bind-node-4 : (t : ℕ) → bind-node-lts.Need-sub-bind-node-4 (rs
 bind-node-sub-bind-node-4 t c = two-below (c .before .before .before .before .before .before .before .before .before .before .before .before .before .before .before .before .pre .1 .1) (sym (c .before .before .before .before .before .before .before .before .before .before .node-of .ensures) ∙ c .before .before .before .before .before .before .before .before .op2 .given .1)
 
 bind-node-sub-bind-node-5 : (t : ℕ) → bind-node-lts.Need-sub-bind-node-5 (rs t) (bind-node-at t) bind-node.Post
-bind-node-sub-bind-node-5 t c = deep (c .before .before .before .before .before .before .before .before .before .before .before .before .before .before .before .before .pre .1 .1)
+bind-node-sub-bind-node-5 t c = depth-left _ (c .before .before .before .before .before .before .before .before .before .before .before .before .before .before .before .before .pre .1 .1 .deep)
 
 bind-node-bind-node-requires-3 : (t : ℕ) → bind-node-lts.Need-bind-node-requires-3 (rs t) (bind-node-at t) bind-node.Post
-bind-node-bind-node-requires-3 t c κs = (omega (arith, c .before .before .before .before .before .before .before .before .before .before .before .before .before .before .before .before .before .pre .0, deep (c .before .before .before .before .before .before .before .before .before .before .before .before .before .before .before .before .before .pre .1 .1)), right-asks (c .before .before .before .before .before .before .before .before .before .before .before .before .before .before .before .before .before .pre .1 .1) (sym (c .before .before .before .before .before .before .before .before .before .before .before .node-of .ensures) ∙ c .before .before .before .before .before .before .before .before .before .op2 .given .1) _ _ (c .before .before .before .before .before .before .bind-node2 .ensures) (c .before .before .a2 .given .1) (c .before .before .before .before .before .before .bind-node2 .kept .1 .1 .1 .1 .1 .1 .0))
+bind-node-bind-node-requires-3 t c κs = (omega (arith, c .before .before .before .before .before .before .before .before .before .before .before .before .before .before .before .before .before .pre .0, depth-left _ (c .before .before .before .before .before .before .before .before .before .before .before .before .before .before .before .before .before .pre .1 .1 .deep)), right-asks (c .before .before .before .before .before .before .before .before .before .before .before .before .before .before .before .before .before .pre .1 .1) (sym (c .before .before .before .before .before .before .before .before .before .before .before .node-of .ensures) ∙ c .before .before .before .before .before .before .before .before .before .op2 .given .1) _ _ (c .before .before .before .before .before .before .bind-node2 .ensures) (c .before .before .a2 .given .1) (c .before .before .before .before .before .before .bind-node2 .kept .1 .1 .1 .1 .1 .1 .0))
 
 bind-node-enum-known-b : (t : ℕ) → bind-node-lts.Need-enum-known-b (rs t) (bind-node-at t) bind-node.Post
 bind-node-enum-known-b t c = search needs

@@ -5,18 +5,14 @@ use native.Mathlib.Omega.{arith}
 use mathlib.Core.Path.{sym, _∙_}
 use lib.ListN.{getD}
 use Rattle.conditions.specs.Table.{nodeOf}
-use Rattle.conditions.proofs.Leaves.{leaf-node}
+use Rattle.conditions.proofs.NodeKind.{node-low}
+use Rattle.conditions.proofs.Descent.{in-table, deep, sound-one, sound-two}
 use Rattle.conditions.proofs.Walk.{
-  in-table,
-  deep,
   leaf-sound,
   leaf-answers,
-  one-known,
-  one-below,
   one-asks,
   one-refused,
   one-answers,
-  two-below,
   left-asks,
   left-refused,
   left-decided,
@@ -74,10 +70,10 @@ abbrev os : ℕ → operand-lts.Claims
 os t = (leaf-reads.Asked, leaf-reads.Learnt, evaluate-below t, evaluate.Post)
 
 evaluate-mul-node-of : (t : ℕ) → evaluate-lts.Need-mul-node-of (rs t) (evaluate-at t) evaluate.Post
-evaluate-mul-node-of t c = scaled-fits _ _ 8 (in-table _ _ _ _ _ _ _ _ (c .before .before .before .pre .1)) (c .before .before .before .good .1 .0 .1)
+evaluate-mul-node-of t c = scaled-fits _ _ 8 (in-table _ _ _ _ _ (c .before .before .before .pre .1 .sound)) (c .before .before .before .good .1 .0 .1)
 
 evaluate-shared-slice-read-node-of : (t : ℕ) → evaluate-lts.Need-shared-slice-read-node-of (rs t) (evaluate-at t) evaluate.Post
-evaluate-shared-slice-read-node-of t c = in-table _ _ _ _ _ _ _ _ (c .before .before .before .before .pre .1)
+evaluate-shared-slice-read-node-of t c = in-table _ _ _ _ _ (c .before .before .before .before .pre .1 .sound)
 
 evaluate-node-of-requires : (t : ℕ) → evaluate-lts.Need-node-of-requires (rs t) (evaluate-at t) evaluate.Post
 evaluate-node-of-requires t c κs = search needs
@@ -92,13 +88,13 @@ evaluate-enum-known-op : (t : ℕ) → evaluate-lts.Need-enum-known-op (rs t) (e
 evaluate-enum-known-op t c = search needs
 
 evaluate-sub-operand : (t : ℕ) → evaluate-lts.Need-sub-operand (rs t) (evaluate-at t) evaluate.Post
-evaluate-sub-operand t c = one-below _ _ _ _ _ _ _ _ (c .before .before .before .before .before .before .before .before .pre .1) _ (sym (c .before .before .before .node-of .ensures) ∙ c .before .op .given .1)
+evaluate-sub-operand t c = sound-one _ _ _ _ _ (c .before .before .before .before .before .before .before .before .pre .1 .sound) (sym (c .before .before .before .node-of .ensures) ∙ c .before .op .given .1) .below
 
 evaluate-sub-operand-2 : (t : ℕ) → evaluate-lts.Need-sub-operand-2 (rs t) (evaluate-at t) evaluate.Post
-evaluate-sub-operand-2 t c = deep _ _ _ _ _ _ _ _ (c .before .before .before .before .before .before .before .before .pre .1)
+evaluate-sub-operand-2 t c = deep _ _ _ _ _ (c .before .before .before .before .before .before .before .before .pre .1 .sound)
 
 evaluate-operand-requires : (t : ℕ) → evaluate-lts.Need-operand-requires (rs t) (evaluate-at t) evaluate.Post
-evaluate-operand-requires t c κs = (omega (arith, c .before .before .before .before .before .before .before .before .before .pre .0, deep _ _ _ _ _ _ _ _ (c .before .before .before .before .before .before .before .before .before .pre .1)), one-asks _ _ _ _ _ _ _ _ (c .before .before .before .before .before .before .before .before .before .pre .1) _ (sym (c .before .before .before .before .node-of .ensures) ∙ c .before .before .op .given .1))
+evaluate-operand-requires t c κs = (omega (arith, c .before .before .before .before .before .before .before .before .before .pre .0, deep _ _ _ _ _ (c .before .before .before .before .before .before .before .before .before .pre .1 .sound)), one-asks _ _ _ _ _ _ _ _ (c .before .before .before .before .before .before .before .before .before .pre .1) _ (sym (c .before .before .before .before .node-of .ensures) ∙ c .before .before .op .given .1))
 
 evaluate-enum-known-a : (t : ℕ) → evaluate-lts.Need-enum-known-a (rs t) (evaluate-at t) evaluate.Post
 evaluate-enum-known-a t c = search needs
@@ -110,19 +106,19 @@ evaluate-returns : (t : ℕ) → evaluate-lts.Need-returns (rs t) (evaluate-at t
 evaluate-returns t c = (one-refused _ _ _ _ _ _ _ _ (c .before .before .before .before .before .before .before .before .before .before .before .before .before .pre .1) _ (sym (c .before .before .before .before .before .before .before .before .node-of .ensures) ∙ c .before .before .before .before .before .before .op .given .1) _ _ (c .match2 .keys2) (c .before .before .before .operand .ensures .0), lies-refused (c .before .before .before .before .before .before .before .before .before .before .before .before .before .args .top) (nodeOf (getD (c .before .before .before .before .before .before .before .before .before .before .before .before .before .args .nodes .now) (c .before .before .before .before .before .before .before .before .before .before .before .before .before .args .k) 0)) (c .before .before .before .before .before .before .before .before .before .before .before .before .before .args .row .now) (c .before .before .before .operand .result) (c .match2 .keys2))
 
 evaluate-unary-requires : (t : ℕ) → evaluate-lts.Need-unary-requires (rs t) (evaluate-at t) evaluate.Post
-evaluate-unary-requires t c κs = one-known _ _ _ _ _ _ _ _ (c .before .before .before .before .before .before .before .before .before .before .before .before .before .before .before .pre .1) _ (sym (c .before .before .before .before .before .before .before .before .before .before .node-of .ensures) ∙ c .before .before .before .before .before .before .before .before .op .given .1)
+evaluate-unary-requires t c κs = sound-one _ _ _ _ _ (c .before .before .before .before .before .before .before .before .before .before .before .before .before .before .before .pre .1 .sound) (sym (c .before .before .before .before .before .before .before .before .before .before .node-of .ensures) ∙ c .before .before .before .before .before .before .before .before .op .given .1) .known
 
 evaluate-enum-known-op-2 : (t : ℕ) → evaluate-lts.Need-enum-known-op-2 (rs t) (evaluate-at t) evaluate.Post
 evaluate-enum-known-op-2 t c = search needs
 
 evaluate-sub-r : (t : ℕ) → evaluate-lts.Need-sub-r (rs t) (evaluate-at t) evaluate.Post
-evaluate-sub-r t c = two-below _ _ _ _ _ _ _ _ (c .before .before .before .before .before .before .before .before .pre .1) _ _ (sym (c .before .before .before .node-of .ensures) ∙ c .before .op2 .given .1)
+evaluate-sub-r t c = sound-two _ _ _ _ _ (c .before .before .before .before .before .before .before .before .pre .1 .sound) (sym (c .before .before .before .node-of .ensures) ∙ c .before .op2 .given .1) .right-below
 
 evaluate-sub-operand-3 : (t : ℕ) → evaluate-lts.Need-sub-operand-3 (rs t) (evaluate-at t) evaluate.Post
-evaluate-sub-operand-3 t c = deep _ _ _ _ _ _ _ _ (c .before .before .before .before .before .before .before .before .pre .1)
+evaluate-sub-operand-3 t c = deep _ _ _ _ _ (c .before .before .before .before .before .before .before .before .pre .1 .sound)
 
 evaluate-operand-requires-2 : (t : ℕ) → evaluate-lts.Need-operand-requires-2 (rs t) (evaluate-at t) evaluate.Post
-evaluate-operand-requires-2 t c κs = (omega (arith, c .before .before .before .before .before .before .before .before .before .pre .0, deep _ _ _ _ _ _ _ _ (c .before .before .before .before .before .before .before .before .before .pre .1)), left-asks _ _ _ _ _ _ _ _ (c .before .before .before .before .before .before .before .before .before .pre .1) _ _ (sym (c .before .before .before .before .node-of .ensures) ∙ c .before .before .op2 .given .1))
+evaluate-operand-requires-2 t c κs = (omega (arith, c .before .before .before .before .before .before .before .before .before .pre .0, deep _ _ _ _ _ (c .before .before .before .before .before .before .before .before .before .pre .1 .sound)), left-asks _ _ _ _ _ _ _ _ (c .before .before .before .before .before .before .before .before .before .pre .1) _ _ (sym (c .before .before .before .before .node-of .ensures) ∙ c .before .before .op2 .given .1))
 
 evaluate-enum-known-a-2 : (t : ℕ) → evaluate-lts.Need-enum-known-a-2 (rs t) (evaluate-at t) evaluate.Post
 evaluate-enum-known-a-2 t c = search needs
@@ -149,10 +145,10 @@ evaluate-returns-3 : (t : ℕ) → evaluate-lts.Need-returns-3 (rs t) (evaluate-
 evaluate-returns-3 t c = (left-decided _ _ _ _ _ _ _ _ (c .before .before .before .before .before .before .before .before .before .before .before .before .before .before .before .before .before .before .before .pre .1) _ _ (sym (c .before .before .before .before .before .before .before .before .before .before .before .before .before .before .node-of .ensures) ∙ c .before .before .before .before .before .before .before .before .before .before .before .before .op2 .given .1) _ _ _ (rw (c .before .before .before .before .before .a2 .given .1) at (c .before .before .before .before .before .before .before .before .before .operand2 .ensures .0)) (c .before .before .before .before .before .before .before .before .before .operand2 .kept .1 .1 .1 .1 .1 .0) _ (c .before .before .before .decided .ensures) _ _ (c .before .before .if1 .taken) (c .before .truth .ensures) (c .flag .ensures), left-lies _ _ _ _ _ _ _ _ (c .before .before .before .before .before .before .before .before .before .before .before .before .before .before .before .before .before .before .before .pre .1) _ _ (sym (c .before .before .before .before .before .before .before .before .before .before .before .before .before .before .node-of .ensures) ∙ c .before .before .before .before .before .before .before .before .before .before .before .before .op2 .given .1) _ _ _ (rw (c .before .before .before .before .before .a2 .given .1) at (c .before .before .before .before .before .before .before .before .before .operand2 .ensures .0)) (c .before .before .before .before .before .before .before .before .before .operand2 .kept .1 .1 .1 .1 .1 .0) _ (c .before .before .before .decided .ensures) _ _ (c .flag .ensures))
 
 evaluate-sub-operand-4 : (t : ℕ) → evaluate-lts.Need-sub-operand-4 (rs t) (evaluate-at t) evaluate.Post
-evaluate-sub-operand-4 t c = deep _ _ _ _ _ _ _ _ (c .before .before .before .before .before .before .before .before .before .before .before .before .before .before .before .before .before .pre .1)
+evaluate-sub-operand-4 t c = deep _ _ _ _ _ (c .before .before .before .before .before .before .before .before .before .before .before .before .before .before .before .before .before .pre .1 .sound)
 
 evaluate-operand-requires-3 : (t : ℕ) → evaluate-lts.Need-operand-requires-3 (rs t) (evaluate-at t) evaluate.Post
-evaluate-operand-requires-3 t c κs = (omega (arith, c .before .before .before .before .before .before .before .before .before .before .before .before .before .before .before .before .before .before .pre .0, deep _ _ _ _ _ _ _ _ (c .before .before .before .before .before .before .before .before .before .before .before .before .before .before .before .before .before .before .pre .1)), right-asks _ _ _ _ _ _ _ _ (c .before .before .before .before .before .before .before .before .before .before .before .before .before .before .before .before .before .before .pre .1) _ _ (sym (c .before .before .before .before .before .before .before .before .before .before .before .before .before .node-of .ensures) ∙ c .before .before .before .before .before .before .before .before .before .before .before .op2 .given .1) _ _ _ (rw (c .before .before .before .before .a2 .given .1) at (c .before .before .before .before .before .before .before .before .operand2 .ensures .0)) (c .before .before .before .before .before .before .before .before .operand2 .kept .1 .1 .1 .1 .1 .0) _ (c .before .before .decided .ensures) (c .before .if1 .left))
+evaluate-operand-requires-3 t c κs = (omega (arith, c .before .before .before .before .before .before .before .before .before .before .before .before .before .before .before .before .before .before .pre .0, deep _ _ _ _ _ (c .before .before .before .before .before .before .before .before .before .before .before .before .before .before .before .before .before .before .pre .1 .sound)), right-asks _ _ _ _ _ _ _ _ (c .before .before .before .before .before .before .before .before .before .before .before .before .before .before .before .before .before .before .pre .1) _ _ (sym (c .before .before .before .before .before .before .before .before .before .before .before .before .before .node-of .ensures) ∙ c .before .before .before .before .before .before .before .before .before .before .before .op2 .given .1) _ _ _ (rw (c .before .before .before .before .a2 .given .1) at (c .before .before .before .before .before .before .before .before .operand2 .ensures .0)) (c .before .before .before .before .before .before .before .before .operand2 .kept .1 .1 .1 .1 .1 .0) _ (c .before .before .decided .ensures) (c .before .if1 .left))
 
 evaluate-enum-known-b : (t : ℕ) → evaluate-lts.Need-enum-known-b (rs t) (evaluate-at t) evaluate.Post
 evaluate-enum-known-b t c = search needs
@@ -182,16 +178,16 @@ evaluate-returns-7 : (t : ℕ) → evaluate-lts.Need-returns-7 (rs t) (evaluate-
 evaluate-returns-7 t c = (two-answers _ _ _ _ _ _ _ _ (c .before .before .before .before .before .before .before .before .before .before .before .before .before .before .before .before .before .before .before .before .before .before .before .before .before .before .before .before .pre .1) _ _ (sym (c .before .before .before .before .before .before .before .before .before .before .before .before .before .before .before .before .before .before .before .before .before .before .before .node-of .ensures) ∙ c .before .before .before .before .before .before .before .before .before .before .before .before .before .before .before .before .before .before .before .before .before .op2 .given .1) _ _ _ (rw (c .before .before .before .before .before .before .before .before .before .before .before .before .before .before .a2 .given .1) at (c .before .before .before .before .before .before .before .before .before .before .before .before .before .before .before .before .before .before .operand2 .ensures .0)) (c .before .before .before .before .before .before .before .before .before .before .before .before .before .before .before .before .before .before .operand2 .kept .1 .1 .1 .1 .1 .0) _ (c .before .before .before .before .before .before .before .before .before .before .before .before .decided .ensures) (c .before .before .before .before .before .before .before .before .before .before .before .if1 .left) _ _ (c .before .before .before .before .before .before .before .before .before .operand3 .ensures .0) _ _ (c .before .before .before .before .before .b .given .1) (c .before .before .before .before .before .before .before .before .before .operand3 .kept .1 .1 .1 .1 .1 .0) _ _ (c .before .before .apply .ensures), two-lies _ _ _ _ _ _ _ _ (c .before .before .before .before .before .before .before .before .before .before .before .before .before .before .before .before .before .before .before .before .before .before .before .before .before .before .before .before .pre .1) _ _ (sym (c .before .before .before .before .before .before .before .before .before .before .before .before .before .before .before .before .before .before .before .before .before .before .before .node-of .ensures) ∙ c .before .before .before .before .before .before .before .before .before .before .before .before .before .before .before .before .before .before .before .before .before .op2 .given .1) _ _ _ (rw (c .before .before .before .before .before .before .before .before .before .before .before .before .before .before .a2 .given .1) at (c .before .before .before .before .before .before .before .before .before .before .before .before .before .before .before .before .before .before .operand2 .ensures .0)) (c .before .before .before .before .before .before .before .before .before .before .before .before .before .before .before .before .before .before .operand2 .kept .1 .1 .1 .1 .1 .0) _ (c .before .before .before .before .before .before .before .before .before .before .before .before .decided .ensures) (c .before .before .before .before .before .before .before .before .before .before .before .if1 .left) _ _ (c .before .before .before .before .before .before .before .before .before .operand3 .ensures .0) _ _ (c .before .before .before .before .before .b .given .1) (c .before .before .before .before .before .before .before .before .before .operand3 .kept .1 .1 .1 .1 .1 .0) _ (c .before .before .apply .result) (c .before .before .apply .ensures))
 
 operand-mul-word : (t : ℕ) → operand-lts.Need-mul-word (os t) (operand-at t) operand.Post
-operand-mul-word t c = scaled-fits _ _ 8 (in-table _ _ _ _ _ _ _ _ (c .before .before .before .pre .1)) (c .before .before .before .good .1 .0 .1)
+operand-mul-word t c = scaled-fits _ _ 8 (in-table _ _ _ _ _ (c .before .before .before .pre .1 .sound)) (c .before .before .before .good .1 .0 .1)
 
 operand-shared-slice-read-word : (t : ℕ) → operand-lts.Need-shared-slice-read-word (os t) (operand-at t) operand.Post
-operand-shared-slice-read-word t c = in-table _ _ _ _ _ _ _ _ (c .before .before .before .before .pre .1)
+operand-shared-slice-read-word t c = in-table _ _ _ _ _ (c .before .before .before .before .pre .1 .sound)
 
 operand-leaf-requires : (t : ℕ) → operand-lts.Need-leaf-requires (os t) (operand-at t) operand.Post
-operand-leaf-requires t c κs = leaf-sound _ _ _ _ _ _ _ _ (c .before .before .before .before .before .pre .1) _ (leaf-node _ (c .if1 .taken))
+operand-leaf-requires t c κs = leaf-sound _ _ _ _ _ _ _ _ (c .before .before .before .before .before .pre .1) _ (node-low _ (c .if1 .taken))
 
 operand-returns : (t : ℕ) → operand-lts.Need-returns (os t) (operand-at t) operand.Post
-operand-returns t c = (leaf-answers _ _ _ _ _ _ _ _ (c .before .before .before .before .before .before .pre .1) _ _ (leaf-node _ (c .before .if1 .taken)) (c .leaf .ensures), lies-leaf (c .before .before .before .before .before .before .args .top) _ _ _ _ _ (c .before .before .before .before .before .before .args .top) (leaf-node _ (c .before .if1 .taken)) (c .leaf .ensures))
+operand-returns t c = (leaf-answers _ _ _ _ _ _ _ _ (c .before .before .before .before .before .before .pre .1) _ _ (node-low _ (c .before .if1 .taken)) (c .leaf .ensures), lies-leaf (c .before .before .before .before .before .before .args .top) _ _ _ _ _ (c .before .before .before .before .before .before .args .top) (node-low _ (c .before .if1 .taken)) (c .leaf .ensures))
 
 operand-evaluate-requires : (t : ℕ) → operand-lts.Need-evaluate-requires (os t) (operand-at t) operand.Post
 operand-evaluate-requires t c κs = (omega (arith, c .before .before .before .before .before .before .pre .0), c .before .before .before .before .before .before .pre .1)

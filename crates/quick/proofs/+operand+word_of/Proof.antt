@@ -4,17 +4,13 @@ use mathlib.Core.Path.{refl, sym, _∙_}
 use Prim.Native.Nat.{ℕ, _<_, _+_, _*_}
 use native.Mathlib.Omega.{arith}
 use borrow.Author.Needs.{needs, scaled-fits}
-use Rattle.conditions.proofs.Nodes.{node-leaf, node-one, node-two}
+use Rattle.conditions.proofs.NodeKind.{node-leaf, node-one, node-two}
+use Rattle.conditions.proofs.Descent.{in-table, deep, sound-one, sound-two}
 use Rattle.quick.proofs.Walking.{
-  in-table,
-  deep,
   leaf-sound,
   leaf-found,
-  one-known,
-  one-below,
   one-stands,
   one-found,
-  two-below,
   left-stands,
   right-stands,
   left-found,
@@ -76,10 +72,10 @@ operand-returns-2 : (t : ℕ) → operand-lts.Need-returns-2 (os t) (operand-at 
 operand-returns-2 t c = c .word-of .ensures
 
 word-of-mul-word : (t : ℕ) → word-of-lts.Need-mul-word (ws t) (word-of-at t) word-of.Post
-word-of-mul-word t c = scaled-fits _ _ 8 (in-table _ _ _ _ _ (c .before .before .before .pre .1)) (c .before .before .before .good .0 .1)
+word-of-mul-word t c = scaled-fits _ _ 8 (in-table _ _ _ _ _ (c .before .before .before .pre .1 .sound)) (c .before .before .before .good .0 .1)
 
 word-of-shared-slice-read-word : (t : ℕ) → word-of-lts.Need-shared-slice-read-word (ws t) (word-of-at t) word-of.Post
-word-of-shared-slice-read-word t c = in-table _ _ _ _ _ (c .before .before .before .before .pre .1)
+word-of-shared-slice-read-word t c = in-table _ _ _ _ _ (c .before .before .before .before .pre .1 .sound)
 
 word-of-leaf-requires : (t : ℕ) → word-of-lts.Need-leaf-requires (ws t) (word-of-at t) word-of.Post
 word-of-leaf-requires t c κs = leaf-sound _ _ _ _ _ (c .before .before .before .before .before .pre .1) _ (node-leaf _ (c .if1 .taken))
@@ -88,28 +84,28 @@ word-of-returns : (t : ℕ) → word-of-lts.Need-returns (ws t) (word-of-at t) w
 word-of-returns t c = λ n. leaf-found _ _ _ _ _ (c .before .before .before .before .before .before .pre .1) _ _ (node-leaf _ (c .before .if1 .taken)) (c .leaf .ensures)
 
 word-of-sub-operand : (t : ℕ) → word-of-lts.Need-sub-operand (ws t) (word-of-at t) word-of.Post
-word-of-sub-operand t c = one-below _ _ _ _ _ (c .before .before .before .before .before .before .pre .1) _ (node-one _ (c .before .if1 .left) (c .if2 .taken))
+word-of-sub-operand t c = sound-one _ _ _ _ _ (c .before .before .before .before .before .before .pre .1 .sound) (node-one _ (c .before .if1 .left) (c .if2 .taken)) .below
 
 word-of-sub-operand-2 : (t : ℕ) → word-of-lts.Need-sub-operand-2 (ws t) (word-of-at t) word-of.Post
-word-of-sub-operand-2 t c = deep _ _ _ _ _ (c .before .before .before .before .before .before .pre .1)
+word-of-sub-operand-2 t c = deep _ _ _ _ _ (c .before .before .before .before .before .before .pre .1 .sound)
 
 word-of-operand-requires : (t : ℕ) → word-of-lts.Need-operand-requires (ws t) (word-of-at t) word-of.Post
-word-of-operand-requires t c κs = (omega (arith, c .before .before .before .before .before .before .pre .0, deep _ _ _ _ _ (c .before .before .before .before .before .before .pre .1)), one-stands _ _ _ _ _ (c .before .before .before .before .before .before .pre .1) _ (node-one _ (c .before .if1 .left) (c .if2 .taken)))
+word-of-operand-requires t c κs = (omega (arith, c .before .before .before .before .before .before .pre .0, deep _ _ _ _ _ (c .before .before .before .before .before .before .pre .1 .sound)), one-stands _ _ _ _ _ (c .before .before .before .before .before .before .pre .1) _ (node-one _ (c .before .if1 .left) (c .if2 .taken)))
 
 word-of-returns-2 : (t : ℕ) → word-of-lts.Need-returns-2 (ws t) (word-of-at t) word-of.Post
 word-of-returns-2 t c = λ n. absurd (n refl)
 
 word-of-one-requires : (t : ℕ) → word-of-lts.Need-one-requires (ws t) (word-of-at t) word-of.Post
-word-of-one-requires t c κs = one-known _ _ _ _ _ (c .before .before .before .before .before .before .before .before .pre .1) _ (node-one _ (c .before .before .before .if1 .left) (c .before .before .if2 .taken))
+word-of-one-requires t c κs = sound-one _ _ _ _ _ (c .before .before .before .before .before .before .before .before .pre .1 .sound) (node-one _ (c .before .before .before .if1 .left) (c .before .before .if2 .taken)) .known
 
 word-of-returns-3 : (t : ℕ) → word-of-lts.Need-returns-3 (ws t) (word-of-at t) word-of.Post
 word-of-returns-3 t c = λ n. one-found _ _ _ _ _ (c .before .before .before .before .before .before .before .before .before .pre .1) _ (node-one _ (c .before .before .before .before .if1 .left) (c .before .before .before .if2 .taken)) _ _ (c .before .before .operand .ensures (c .before .if3 .left)) n (c .one .ensures)
 
 word-of-sub-operand-3 : (t : ℕ) → word-of-lts.Need-sub-operand-3 (ws t) (word-of-at t) word-of.Post
-word-of-sub-operand-3 t c = deep _ _ _ _ _ (c .before .before .before .before .before .before .pre .1)
+word-of-sub-operand-3 t c = deep _ _ _ _ _ (c .before .before .before .before .before .before .pre .1 .sound)
 
 word-of-operand-requires-2 : (t : ℕ) → word-of-lts.Need-operand-requires-2 (ws t) (word-of-at t) word-of.Post
-word-of-operand-requires-2 t c κs = (omega (arith, c .before .before .before .before .before .before .pre .0, deep _ _ _ _ _ (c .before .before .before .before .before .before .pre .1)), left-stands _ _ _ _ _ (c .before .before .before .before .before .before .pre .1) _ _ (node-two _ (c .if2 .left)))
+word-of-operand-requires-2 t c κs = (omega (arith, c .before .before .before .before .before .before .pre .0, deep _ _ _ _ _ (c .before .before .before .before .before .before .pre .1 .sound)), left-stands _ _ _ _ _ (c .before .before .before .before .before .before .pre .1) _ _ (node-two _ (c .if2 .left)))
 
 word-of-returns-4 : (t : ℕ) → word-of-lts.Need-returns-4 (ws t) (word-of-at t) word-of.Post
 word-of-returns-4 t c = λ n. absurd (n refl)
@@ -127,13 +123,13 @@ word-of-returns-5 : (t : ℕ) → word-of-lts.Need-returns-5 (ws t) (word-of-at 
 word-of-returns-5 t c = λ n. let g = (c .before .before .before .before .before .operand2 .ensures (c .before .before .before .before .if4 .left)) in left-found _ _ _ _ _ (c .before .before .before .before .before .before .before .before .before .before .before .before .pre .1) _ _ (node-two _ (c .before .before .before .before .before .before .if2 .left)) _ g _ (c .before .truth .result) (sym (c .before .before .before .decided .ensures _ (g .within)) ∙ c .before .before .if5 .taken) (c .before .truth .ensures _ (g .within)) n (c .flag .ensures)
 
 word-of-sub-operand-4 : (t : ℕ) → word-of-lts.Need-sub-operand-4 (ws t) (word-of-at t) word-of.Post
-word-of-sub-operand-4 t c = two-below _ _ _ _ _ (c .before .before .before .before .before .before .before .before .before .before .pre .1) _ _ (node-two _ (c .before .before .before .before .if2 .left))
+word-of-sub-operand-4 t c = sound-two _ _ _ _ _ (c .before .before .before .before .before .before .before .before .before .before .pre .1 .sound) (node-two _ (c .before .before .before .before .if2 .left)) .right-below
 
 word-of-sub-operand-5 : (t : ℕ) → word-of-lts.Need-sub-operand-5 (ws t) (word-of-at t) word-of.Post
-word-of-sub-operand-5 t c = deep _ _ _ _ _ (c .before .before .before .before .before .before .before .before .before .before .pre .1)
+word-of-sub-operand-5 t c = deep _ _ _ _ _ (c .before .before .before .before .before .before .before .before .before .before .pre .1 .sound)
 
 word-of-operand-requires-3 : (t : ℕ) → word-of-lts.Need-operand-requires-3 (ws t) (word-of-at t) word-of.Post
-word-of-operand-requires-3 t c κs = (omega (arith, c .before .before .before .before .before .before .before .before .before .before .pre .0, deep _ _ _ _ _ (c .before .before .before .before .before .before .before .before .before .before .pre .1)), right-stands _ _ _ _ _ (c .before .before .before .before .before .before .before .before .before .before .pre .1) _ _ (node-two _ (c .before .before .before .before .if2 .left)))
+word-of-operand-requires-3 t c κs = (omega (arith, c .before .before .before .before .before .before .before .before .before .before .pre .0, deep _ _ _ _ _ (c .before .before .before .before .before .before .before .before .before .before .pre .1 .sound)), right-stands _ _ _ _ _ (c .before .before .before .before .before .before .before .before .before .before .pre .1) _ _ (node-two _ (c .before .before .before .before .if2 .left)))
 
 word-of-returns-6 : (t : ℕ) → word-of-lts.Need-returns-6 (ws t) (word-of-at t) word-of.Post
 word-of-returns-6 t c = λ n. absurd (n refl)

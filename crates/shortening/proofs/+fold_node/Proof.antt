@@ -2,19 +2,17 @@
 use borrow.Author.Needs.{needs, scaled-fits}
 use native.Mathlib.Omega.{arith}
 use mathlib.Core.Path.{sym, _∙_}
+use Rattle.conditions.proofs.Walk.{depth-left}
 use Rattle.shortening.proofs.Walking.{
-  in-table,
   leaf-space,
   leaf-early,
   leaf-gives,
   one-below,
-  one-depth,
   one-asks,
   one-refused,
   one-requires,
   one-gives,
   two-below,
-  two-depth,
   left-asks,
   left-refused,
   right-asks,
@@ -49,10 +47,10 @@ abbrev rs : ℕ → fold-node-lts.Claims
 rs t = (node-of-reads.Asked, node-of-reads.Learnt, write-leaf-reads.Asked, write-leaf-reads.Learnt, fold-node-below t, fold-node.Post, fold-one-reads.Asked, fold-one-reads.Learnt, fold-two-reads.Asked, fold-two-reads.Learnt)
 
 fold-node-mul-node-of : (t : ℕ) → fold-node-lts.Need-mul-node-of (rs t) (fold-node-at t) fold-node.Post
-fold-node-mul-node-of t c = scaled-fits _ _ 8 (in-table _ _ _ _ _ _ _ _ _ _ (c .before .before .before .pre .1 .1) (c .before .before .before .pre .1 .2)) (c .before .before .before .good .1 .0 .1)
+fold-node-mul-node-of t c = scaled-fits _ _ 8 (c .before .before .before .pre .1 .2 .inside) (c .before .before .before .good .1 .0 .1)
 
 fold-node-shared-slice-read-node-of : (t : ℕ) → fold-node-lts.Need-shared-slice-read-node-of (rs t) (fold-node-at t) fold-node.Post
-fold-node-shared-slice-read-node-of t c = in-table _ _ _ _ _ _ _ _ _ _ (c .before .before .before .before .pre .1 .1) (c .before .before .before .before .pre .1 .2)
+fold-node-shared-slice-read-node-of t c = c .before .before .before .before .pre .1 .2 .inside
 
 fold-node-node-of-requires : (t : ℕ) → fold-node-lts.Need-node-of-requires (rs t) (fold-node-at t) fold-node.Post
 fold-node-node-of-requires t c κs = search needs
@@ -76,10 +74,10 @@ fold-node-sub-fold-node : (t : ℕ) → fold-node-lts.Need-sub-fold-node (rs t) 
 fold-node-sub-fold-node t c = one-below _ _ _ _ _ _ _ _ _ _ (c .before .before .before .before .before .before .before .before .pre .1 .1) (c .before .before .before .before .before .before .before .before .pre .1 .2) _ (sym (c .before .before .before .node-of .ensures) ∙ c .before .op .given .1)
 
 fold-node-sub-fold-node-2 : (t : ℕ) → fold-node-lts.Need-sub-fold-node-2 (rs t) (fold-node-at t) fold-node.Post
-fold-node-sub-fold-node-2 t c = one-depth _ _ _ _ _ _ _ _ _ _ (c .before .before .before .before .before .before .before .before .pre .1 .1) (c .before .before .before .before .before .before .before .before .pre .1 .2) _ (sym (c .before .before .before .node-of .ensures) ∙ c .before .op .given .1)
+fold-node-sub-fold-node-2 t c = depth-left _ (c .before .before .before .before .before .before .before .before .pre .1 .2 .deep)
 
 fold-node-fold-node-requires : (t : ℕ) → fold-node-lts.Need-fold-node-requires (rs t) (fold-node-at t) fold-node.Post
-fold-node-fold-node-requires t c κs = (omega (arith, c .before .before .before .before .before .before .before .before .before .before .pre .0, one-depth _ _ _ _ _ _ _ _ _ _ (c .before .before .before .before .before .before .before .before .before .before .pre .1 .1) (c .before .before .before .before .before .before .before .before .before .before .pre .1 .2) _ (sym (c .before .before .before .before .before .node-of .ensures) ∙ c .before .before .before .op .given .1)), (_, _, one-asks _ _ _ _ _ _ _ _ _ _ (c .before .before .before .before .before .before .before .before .before .before .pre .1 .1) (c .before .before .before .before .before .before .before .before .before .before .pre .1 .2) _ (sym (c .before .before .before .before .before .node-of .ensures) ∙ c .before .before .before .op .given .1)))
+fold-node-fold-node-requires t c κs = (omega (arith, c .before .before .before .before .before .before .before .before .before .before .pre .0, depth-left _ (c .before .before .before .before .before .before .before .before .before .before .pre .1 .2 .deep)), (_, _, one-asks _ _ _ _ _ _ _ _ _ _ (c .before .before .before .before .before .before .before .before .before .before .pre .1 .1) (c .before .before .before .before .before .before .before .before .before .before .pre .1 .2) _ (sym (c .before .before .before .before .before .node-of .ensures) ∙ c .before .before .before .op .given .1)))
 
 fold-node-enum-known-a : (t : ℕ) → fold-node-lts.Need-enum-known-a (rs t) (fold-node-at t) fold-node.Post
 fold-node-enum-known-a t c = search needs
@@ -103,10 +101,10 @@ fold-node-enum-known-op-2 : (t : ℕ) → fold-node-lts.Need-enum-known-op-2 (rs
 fold-node-enum-known-op-2 t c = search needs
 
 fold-node-sub-fold-node-3 : (t : ℕ) → fold-node-lts.Need-sub-fold-node-3 (rs t) (fold-node-at t) fold-node.Post
-fold-node-sub-fold-node-3 t c = two-depth _ _ _ _ _ _ _ _ _ _ (c .before .before .before .before .before .before .before .before .pre .1 .1) (c .before .before .before .before .before .before .before .before .pre .1 .2) _ _ (sym (c .before .before .before .node-of .ensures) ∙ c .before .op2 .given .1)
+fold-node-sub-fold-node-3 t c = depth-left _ (c .before .before .before .before .before .before .before .before .pre .1 .2 .deep)
 
 fold-node-fold-node-requires-2 : (t : ℕ) → fold-node-lts.Need-fold-node-requires-2 (rs t) (fold-node-at t) fold-node.Post
-fold-node-fold-node-requires-2 t c κs = (omega (arith, c .before .before .before .before .before .before .before .before .before .before .pre .0, two-depth _ _ _ _ _ _ _ _ _ _ (c .before .before .before .before .before .before .before .before .before .before .pre .1 .1) (c .before .before .before .before .before .before .before .before .before .before .pre .1 .2) _ _ (sym (c .before .before .before .before .before .node-of .ensures) ∙ c .before .before .before .op2 .given .1)), (_, _, left-asks _ _ _ _ _ _ _ _ _ _ (c .before .before .before .before .before .before .before .before .before .before .pre .1 .1) (c .before .before .before .before .before .before .before .before .before .before .pre .1 .2) _ _ (sym (c .before .before .before .before .before .node-of .ensures) ∙ c .before .before .before .op2 .given .1)))
+fold-node-fold-node-requires-2 t c κs = (omega (arith, c .before .before .before .before .before .before .before .before .before .before .pre .0, depth-left _ (c .before .before .before .before .before .before .before .before .before .before .pre .1 .2 .deep)), (_, _, left-asks _ _ _ _ _ _ _ _ _ _ (c .before .before .before .before .before .before .before .before .before .before .pre .1 .1) (c .before .before .before .before .before .before .before .before .before .before .pre .1 .2) _ _ (sym (c .before .before .before .before .before .node-of .ensures) ∙ c .before .before .before .op2 .given .1)))
 
 fold-node-enum-known-a-2 : (t : ℕ) → fold-node-lts.Need-enum-known-a-2 (rs t) (fold-node-at t) fold-node.Post
 fold-node-enum-known-a-2 t c = search needs
@@ -127,10 +125,10 @@ fold-node-sub-fold-node-4 : (t : ℕ) → fold-node-lts.Need-sub-fold-node-4 (rs
 fold-node-sub-fold-node-4 t c = two-below _ _ _ _ _ _ _ _ _ _ (c .before .before .before .before .before .before .before .before .before .before .before .before .before .before .before .before .before .before .pre .1 .1) (c .before .before .before .before .before .before .before .before .before .before .before .before .before .before .before .before .before .before .pre .1 .2) _ _ (sym (c .before .before .before .before .before .before .before .before .before .before .before .before .before .node-of .ensures) ∙ c .before .before .before .before .before .before .before .before .before .before .before .op2 .given .1)
 
 fold-node-sub-fold-node-5 : (t : ℕ) → fold-node-lts.Need-sub-fold-node-5 (rs t) (fold-node-at t) fold-node.Post
-fold-node-sub-fold-node-5 t c = two-depth _ _ _ _ _ _ _ _ _ _ (c .before .before .before .before .before .before .before .before .before .before .before .before .before .before .before .before .before .before .pre .1 .1) (c .before .before .before .before .before .before .before .before .before .before .before .before .before .before .before .before .before .before .pre .1 .2) _ _ (sym (c .before .before .before .before .before .before .before .before .before .before .before .before .before .node-of .ensures) ∙ c .before .before .before .before .before .before .before .before .before .before .before .op2 .given .1)
+fold-node-sub-fold-node-5 t c = depth-left _ (c .before .before .before .before .before .before .before .before .before .before .before .before .before .before .before .before .before .before .pre .1 .2 .deep)
 
 fold-node-fold-node-requires-3 : (t : ℕ) → fold-node-lts.Need-fold-node-requires-3 (rs t) (fold-node-at t) fold-node.Post
-fold-node-fold-node-requires-3 t c κs = (omega (arith, c .before .before .before .before .before .before .before .before .before .before .before .before .before .before .before .before .before .before .before .before .pre .0, two-depth _ _ _ _ _ _ _ _ _ _ (c .before .before .before .before .before .before .before .before .before .before .before .before .before .before .before .before .before .before .before .before .pre .1 .1) (c .before .before .before .before .before .before .before .before .before .before .before .before .before .before .before .before .before .before .before .before .pre .1 .2) _ _ (sym (c .before .before .before .before .before .before .before .before .before .before .before .before .before .before .before .node-of .ensures) ∙ c .before .before .before .before .before .before .before .before .before .before .before .before .before .op2 .given .1)), (_, _, right-asks _ _ _ _ _ _ _ _ _ _ (c .before .before .before .before .before .before .before .before .before .before .before .before .before .before .before .before .before .before .before .before .pre .1 .1) (c .before .before .before .before .before .before .before .before .before .before .before .before .before .before .before .before .before .before .before .before .pre .1 .2) _ _ (sym (c .before .before .before .before .before .before .before .before .before .before .before .before .before .before .before .node-of .ensures) ∙ c .before .before .before .before .before .before .before .before .before .before .before .before .before .op2 .given .1) _ _ _ (c .before .before .before .before .before .before .before .before .before .fold-node2 .ensures _ _ (left-asks _ _ _ _ _ _ _ _ _ _ (c .before .before .before .before .before .before .before .before .before .before .before .before .before .before .before .before .before .before .before .before .pre .1 .1) (c .before .before .before .before .before .before .before .before .before .before .before .before .before .before .before .before .before .before .before .before .pre .1 .2) _ _ (sym (c .before .before .before .before .before .before .before .before .before .before .before .before .before .before .before .node-of .ensures) ∙ c .before .before .before .before .before .before .before .before .before .before .before .before .before .op2 .given .1))) _ _ _ _ (c .before .before .before .a2 .given .1) (c .before .before .before .before .before .before .before .before .before .fold-node2 .kept .1 .1 .1 .1 .1 .1 .1 .0) (c .before .before .before .before .before .before .before .before .before .fold-node2 .kept .1 .1 .1 .1 .1 .0)))
+fold-node-fold-node-requires-3 t c κs = (omega (arith, c .before .before .before .before .before .before .before .before .before .before .before .before .before .before .before .before .before .before .before .before .pre .0, depth-left _ (c .before .before .before .before .before .before .before .before .before .before .before .before .before .before .before .before .before .before .before .before .pre .1 .2 .deep)), (_, _, right-asks _ _ _ _ _ _ _ _ _ _ (c .before .before .before .before .before .before .before .before .before .before .before .before .before .before .before .before .before .before .before .before .pre .1 .1) (c .before .before .before .before .before .before .before .before .before .before .before .before .before .before .before .before .before .before .before .before .pre .1 .2) _ _ (sym (c .before .before .before .before .before .before .before .before .before .before .before .before .before .before .before .node-of .ensures) ∙ c .before .before .before .before .before .before .before .before .before .before .before .before .before .op2 .given .1) _ _ _ (c .before .before .before .before .before .before .before .before .before .fold-node2 .ensures _ _ (left-asks _ _ _ _ _ _ _ _ _ _ (c .before .before .before .before .before .before .before .before .before .before .before .before .before .before .before .before .before .before .before .before .pre .1 .1) (c .before .before .before .before .before .before .before .before .before .before .before .before .before .before .before .before .before .before .before .before .pre .1 .2) _ _ (sym (c .before .before .before .before .before .before .before .before .before .before .before .before .before .before .before .node-of .ensures) ∙ c .before .before .before .before .before .before .before .before .before .before .before .before .before .op2 .given .1))) _ _ _ _ (c .before .before .before .a2 .given .1) (c .before .before .before .before .before .before .before .before .before .fold-node2 .kept .1 .1 .1 .1 .1 .1 .1 .0) (c .before .before .before .before .before .before .before .before .before .fold-node2 .kept .1 .1 .1 .1 .1 .0)))
 
 fold-node-enum-known-b : (t : ℕ) → fold-node-lts.Need-enum-known-b (rs t) (fold-node-at t) fold-node.Post
 fold-node-enum-known-b t c = search needs

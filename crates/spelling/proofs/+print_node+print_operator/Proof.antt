@@ -5,9 +5,8 @@ use native.Mathlib.Omega.{arith}
 use lib.Dec.{ltb}
 use borrow.Author.Needs.{needs, scaled-fits}
 use Rattle.signs.proofs.Lengths.{precedence-small}
+use Rattle.conditions.proofs.Walk.{depth-left}
 use Rattle.spelling.proofs.Walking.{
-  in-table,
-  deeper,
   leaf-asks,
   leaf-puts,
   one-below,
@@ -77,10 +76,10 @@ abbrev os : ℕ → print-operator-lts.Claims
 os t = (precedence-reads.Asked, precedence-reads.Learnt, put-if-reads.Asked, put-if-reads.Learnt, print-node-below t, print-node.Post, put-sign-reads.Asked, put-sign-reads.Learnt)
 
 print-node-mul-node-of : (t : ℕ) → print-node-lts.Need-mul-node-of (ns t) (print-node-at t) print-node.Post
-print-node-mul-node-of t c = scaled-fits _ _ 8 (in-table (c .before .before .before .pre .1 .1)) (c .before .before .before .good .0 .1)
+print-node-mul-node-of t c = scaled-fits _ _ 8 (c .before .before .before .pre .1 .1 .inside) (c .before .before .before .good .0 .1)
 
 print-node-shared-slice-read-node-of : (t : ℕ) → print-node-lts.Need-shared-slice-read-node-of (ns t) (print-node-at t) print-node.Post
-print-node-shared-slice-read-node-of t c = in-table (c .before .before .before .before .pre .1 .1)
+print-node-shared-slice-read-node-of t c = c .before .before .before .before .pre .1 .1 .inside
 
 print-node-node-of-requires : (t : ℕ) → print-node-lts.Need-node-of-requires (ns t) (print-node-at t) print-node.Post
 print-node-node-of-requires t c κs = search needs
@@ -101,10 +100,10 @@ print-node-sub-print-node : (t : ℕ) → print-node-lts.Need-sub-print-node (ns
 print-node-sub-print-node t c = one-below (c .before .before .before .before .before .before .before .before .before .before .before .before .pre .1 .1) (sym (c .before .before .before .before .before .before .before .node-of .ensures) ∙ c .before .before .before .before .before .op .given .1)
 
 print-node-sub-print-node-2 : (t : ℕ) → print-node-lts.Need-sub-print-node-2 (ns t) (print-node-at t) print-node.Post
-print-node-sub-print-node-2 t c = deeper (c .before .before .before .before .before .before .before .before .before .before .before .before .pre .1 .1)
+print-node-sub-print-node-2 t c = depth-left _ (c .before .before .before .before .before .before .before .before .before .before .before .before .pre .1 .1 .deep)
 
 print-node-print-node-requires : (t : ℕ) → print-node-lts.Need-print-node-requires (ns t) (print-node-at t) print-node.Post
-print-node-print-node-requires t c κs = (omega (arith, c .before .before .before .before .before .before .before .before .before .before .before .before .before .pre .0, deeper (c .before .before .before .before .before .before .before .before .before .before .before .before .before .pre .1 .1)), one-asks (c .before .before .before .before .before .before .before .before .before .before .before .before .before .pre .1 .1) (sym (c .before .before .before .before .before .before .before .before .node-of .ensures) ∙ c .before .before .before .before .before .before .op .given .1) (c .before .before .before .put-prefix .ensures))
+print-node-print-node-requires t c κs = (omega (arith, c .before .before .before .before .before .before .before .before .before .before .before .before .before .pre .0, depth-left _ (c .before .before .before .before .before .before .before .before .before .before .before .before .before .pre .1 .1 .deep)), one-asks (c .before .before .before .before .before .before .before .before .before .before .before .before .before .pre .1 .1) (sym (c .before .before .before .before .before .before .before .before .node-of .ensures) ∙ c .before .before .before .before .before .before .op .given .1) (c .before .before .before .put-prefix .ensures))
 
 print-node-enum-known-op-2 : (t : ℕ) → print-node-lts.Need-enum-known-op-2 (ns t) (print-node-at t) print-node.Post
 print-node-enum-known-op-2 t c = search needs
@@ -137,10 +136,10 @@ print-operator-put-if-requires : (t : ℕ) → print-operator-lts.Need-put-if-re
 print-operator-put-if-requires t c κs = open-room (c .before .before .before .before .before .pre .1 .1 .1) (c .before .before .before .before .before .pre .1 .1 .0)
 
 print-operator-sub-print-node : (t : ℕ) → print-operator-lts.Need-sub-print-node (os t) (print-operator-at t) print-operator.Post
-print-operator-sub-print-node t c = deeper (c .before .before .before .before .before .before .before .before .pre .1 .1 .1)
+print-operator-sub-print-node t c = depth-left _ (c .before .before .before .before .before .before .before .before .pre .1 .1 .1 .deep)
 
 print-operator-print-node-requires : (t : ℕ) → print-operator-lts.Need-print-node-requires (os t) (print-operator-at t) print-operator.Post
-print-operator-print-node-requires t c κs = (omega (arith, c .before .before .before .before .before .before .before .before .before .pre .0, deeper (c .before .before .before .before .before .before .before .before .before .pre .1 .1 .1)), left-asks (c .before .before .before .before .before .before .before .before .before .pre .1 .1 .1) (c .before .before .before .before .before .before .before .before .before .pre .1 .1 .0) (ltb (c .before .before .before .before .before .precedence .result) (c .before .before .before .before .before .before .before .before .before .args .asked)) (c .before .before .before .put-if .ensures))
+print-operator-print-node-requires t c κs = (omega (arith, c .before .before .before .before .before .before .before .before .before .pre .0, depth-left _ (c .before .before .before .before .before .before .before .before .before .pre .1 .1 .1 .deep)), left-asks (c .before .before .before .before .before .before .before .before .before .pre .1 .1 .1) (c .before .before .before .before .before .before .before .before .before .pre .1 .1 .0) (ltb (c .before .before .before .before .before .precedence .result) (c .before .before .before .before .before .before .before .before .before .args .asked)) (c .before .before .before .put-if .ensures))
 
 print-operator-put-sign-requires : (t : ℕ) → print-operator-lts.Need-put-sign-requires (os t) (print-operator-at t) print-operator.Post
 print-operator-put-sign-requires t c κs = sign-room (c .before .before .before .before .before .before .before .before .before .before .before .before .before .pre .1 .1 .1) (c .before .before .before .before .before .before .before .before .before .before .before .before .before .pre .1 .1 .0) (ltb (c .before .before .before .before .before .before .before .before .before .precedence .result) (c .before .before .before .before .before .before .before .before .before .before .before .before .before .args .asked)) (c .before .before .before .before .before .before .before .put-if .ensures) _ (c .before .before .before .print-node .ensures)
@@ -149,13 +148,13 @@ print-operator-sub-print-node-2 : (t : ℕ) → print-operator-lts.Need-sub-prin
 print-operator-sub-print-node-2 t c = two-below (c .before .before .before .before .before .before .before .before .before .before .before .before .before .before .before .before .pre .1 .1 .1) (c .before .before .before .before .before .before .before .before .before .before .before .before .before .before .before .before .pre .1 .1 .0)
 
 print-operator-sub-print-node-3 : (t : ℕ) → print-operator-lts.Need-sub-print-node-3 (os t) (print-operator-at t) print-operator.Post
-print-operator-sub-print-node-3 t c = deeper (c .before .before .before .before .before .before .before .before .before .before .before .before .before .before .before .before .pre .1 .1 .1)
+print-operator-sub-print-node-3 t c = depth-left _ (c .before .before .before .before .before .before .before .before .before .before .before .before .before .before .before .before .pre .1 .1 .1 .deep)
 
 print-operator-add-print-node : (t : ℕ) → print-operator-lts.Need-add-print-node (os t) (print-operator-at t) print-operator.Post
 print-operator-add-print-node t c = omega (arith, c .before .before .before .before .before .before .before .before .before .before .before .before .precedence .ensures, precedence-small (c .before .before .before .before .before .before .before .before .before .before .before .before .before .before .before .before .args .op))
 
 print-operator-print-node-requires-2 : (t : ℕ) → print-operator-lts.Need-print-node-requires-2 (os t) (print-operator-at t) print-operator.Post
-print-operator-print-node-requires-2 t c κs = (omega (arith, c .before .before .before .before .before .before .before .before .before .before .before .before .before .before .before .before .before .pre .0, deeper (c .before .before .before .before .before .before .before .before .before .before .before .before .before .before .before .before .before .pre .1 .1 .1)), right-asks (c .before .before .before .before .before .before .before .before .before .before .before .before .before .before .before .before .before .pre .1 .1 .1) (c .before .before .before .before .before .before .before .before .before .before .before .before .before .before .before .before .before .pre .1 .1 .0) (ltb (c .before .before .before .before .before .before .before .before .before .before .before .before .before .precedence .result) (c .before .before .before .before .before .before .before .before .before .before .before .before .before .before .before .before .before .args .asked)) (c .before .before .before .before .before .before .before .before .before .before .before .put-if .ensures) _ (c .before .before .before .before .before .before .before .print-node .ensures) (c .before .before .before .put-sign .ensures))
+print-operator-print-node-requires-2 t c κs = (omega (arith, c .before .before .before .before .before .before .before .before .before .before .before .before .before .before .before .before .before .pre .0, depth-left _ (c .before .before .before .before .before .before .before .before .before .before .before .before .before .before .before .before .before .pre .1 .1 .1 .deep)), right-asks (c .before .before .before .before .before .before .before .before .before .before .before .before .before .before .before .before .before .pre .1 .1 .1) (c .before .before .before .before .before .before .before .before .before .before .before .before .before .before .before .before .before .pre .1 .1 .0) (ltb (c .before .before .before .before .before .before .before .before .before .before .before .before .before .precedence .result) (c .before .before .before .before .before .before .before .before .before .before .before .before .before .before .before .before .before .args .asked)) (c .before .before .before .before .before .before .before .before .before .before .before .put-if .ensures) _ (c .before .before .before .before .before .before .before .print-node .ensures) (c .before .before .before .put-sign .ensures))
 
 print-operator-put-if-requires-2 : (t : ℕ) → print-operator-lts.Need-put-if-requires-2 (os t) (print-operator-at t) print-operator.Post
 print-operator-put-if-requires-2 t c κs = close-room (c .before .before .before .before .before .before .before .before .before .before .before .before .before .before .before .before .before .before .before .before .before .pre .1 .1 .1) (c .before .before .before .before .before .before .before .before .before .before .before .before .before .before .before .before .before .before .before .before .before .pre .1 .1 .0) (ltb (c .before .before .before .before .before .before .before .before .before .before .before .before .before .before .before .before .before .precedence .result) (c .before .before .before .before .before .before .before .before .before .before .before .before .before .before .before .before .before .before .before .before .before .args .asked)) (c .before .before .before .before .before .before .before .before .before .before .before .before .before .before .before .put-if .ensures) _ (c .before .before .before .before .before .before .before .before .before .before .before .print-node .ensures) (c .before .before .before .before .before .before .before .put-sign .ensures) (c .before .before .before .print-node2 .ensures)
