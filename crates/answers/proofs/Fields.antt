@@ -7,6 +7,7 @@ use Rattle.refusals.specs.declared.Refusal.{Refusal}
 use Rattle.refusals.specs.Stop.{Stop}
 use Rattle.writing.specs.Writing as writing
 use Rattle.writing.specs.Writing.{WrittenIs}
+use Rattle.writing.specs.Marked as marked
 use Rattle.writing.specs.declared.Written.{Written}
 use Rattle.writing.specs.declared.Written.the-variants as written
 use Rattle.replacing.specs.Fold.{Folding}
@@ -43,26 +44,22 @@ pub written-fields : (used : ℕ) (before after : List ℕ) (s : Stop) (n : ℕ)
     → Tells Written (ofWritten used) (λ w. WrittenIs before after w s n result) r → r ≡ ofReport used (writing.report s n)
 written-fields used before after s n result r h = h .says ∙ by-report used (h .answer) ∙ ap (ofReport used) (h .is .says)
 
-abbrev pub ofShortenedReport : ℕ → folding.Report → Answer
-ofShortenedReport used (folding.wrote n mark) = accepted n mark
-ofShortenedReport used (folding.Report.refused number place) = stopped used number place
+abbrev pub ofMarkedReport : ℕ → marked.Report → Answer
+ofMarkedReport used (marked.wrote n mark) = accepted n mark
+ofMarkedReport used (marked.Report.refused number place) = stopped used number place
 
-by-shortened : (used : ℕ) (a : Shortened) → ofShortened used a ≡ ofShortenedReport used (folding.reportOf a)
+by-shortened : (used : ℕ) (a : Shortened) → ofShortened used a ≡ ofMarkedReport used (folding.reportOf a)
 by-shortened used (shortened.Bytes n mark) = refl
 by-shortened used (shortened.Refused r) = refl
 
 pub shortened-fields : (used : ℕ) (f : Folding) (stored after before-out after-out : List ℕ) (r : Answer)
-    → Tells Shortened (ofShortened used) (λ a. FoldIs f stored after before-out after-out a) r → r ≡ ofShortenedReport used (folding.report f)
-shortened-fields used f stored after before-out after-out r t = t .says ∙ by-shortened used (t .answer) ∙ ap (ofShortenedReport used) (t .is .says)
+    → Tells Shortened (ofShortened used) (λ a. FoldIs f stored after before-out after-out a) r → r ≡ ofMarkedReport used (folding.report f)
+shortened-fields used f stored after before-out after-out r t = t .says ∙ by-shortened used (t .answer) ∙ ap (ofMarkedReport used) (t .is .says)
 
-abbrev pub ofJoinedReport : ℕ → heads.Report → Answer
-ofJoinedReport used (heads.wrote n mark) = accepted n mark
-ofJoinedReport used (heads.Report.refused number place) = stopped used number place
-
-by-joined : (used : ℕ) (a : Joined) → ofJoined used a ≡ ofJoinedReport used (heads.reportOf a)
+by-joined : (used : ℕ) (a : Joined) → ofJoined used a ≡ ofMarkedReport used (heads.reportOf a)
 by-joined used (joined.Words n mark) = refl
 by-joined used (joined.Refused r) = refl
 
 pub joined-fields : (used : ℕ) (h : Head) (stored after before-out after-out : List ℕ) (r : Answer)
-    → Tells Joined (ofJoined used) (λ a. HeadIs h stored after before-out after-out a) r → r ≡ ofJoinedReport used (heads.report h)
-joined-fields used h stored after before-out after-out r t = t .says ∙ by-joined used (t .answer) ∙ ap (ofJoinedReport used) (t .is .says)
+    → Tells Joined (ofJoined used) (λ a. HeadIs h stored after before-out after-out a) r → r ≡ ofMarkedReport used (heads.report h)
+joined-fields used h stored after before-out after-out r t = t .says ∙ by-joined used (t .answer) ∙ ap (ofMarkedReport used) (t .is .says)

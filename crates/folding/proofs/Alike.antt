@@ -4,12 +4,13 @@ use mathlib.Core.Bool.{Bool, true, false, cond}
 use mathlib.Core.List.{List, _++_}
 use Prim.Native.Nat.{ℕ, _+_, _*_, _≤_, _<_}
 use native.Mathlib.Omega.{arith}
-use lib.ListN.{length, length-append}
-use lib.Seq.{take-length, take-append-seam}
+use lib.ListN.{length, take}
+use lib.Seq.{take-length}
 use lib.Dec.{eqb}
 use borrow.Author.Tests.{ne-eqb, lt-ltb}
 use Rattle.slices.specs.Splice.{piece}
 use Rattle.slices.proofs.Pieces.{piece-front}
+use Rattle.slices.proofs.Extends.{Extends}
 use Rattle.cells.specs.Cell.{WellFormed, kindOf, bodyOf, startOf, lengthOf}
 use Rattle.values.specs.Value.{Value, toBool, fromBool, valueOf}
 use Rattle.integers.specs.Outcome.{Outcome, value}
@@ -23,35 +24,38 @@ use Rattle.replacing.specs.Fold.{folded, appended, fold}
 use Rattle.shortening.proofs.Ways.{literalAt, Folds, same, kept-one, kept-two, value-one, value-two, fold-folds}
 use Rattle.replacing.specs.Walk.{AllHeld, Literal}
 use Rattle.replacing.proofs.Literals.{literal-one, literal-two, leaf-literal, literal-means}
-use Rattle.shortening.proofs.Growing.{Extends, Grown, held-higher, longer, folds-grown}
+use Rattle.shortening.proofs.Growing.{Grown, held-higher, folds-grown}
 
 -- ---- a longer stored text
 
--- a cell that is well formed below the mark means the same there
-pub value-longer : (s new : List ℕ) (w : ℕ) → WellFormed (length s) w → valueOf s w ≡ valueOf (s ++ new) w
-value-longer s new w h =
-    sym (ap (λ l. valueOf l w) (sym (take-length (s ++ new)))
-    ∙ value-more (length s) (length (s ++ new)) s (s ++ new) w (omega (arith, length-append s new)) h (take-append-seam s new ∙ sym (take-length s))
-    ∙ ap (λ l. valueOf l w) (take-length s))
+module _ {s s′ : List ℕ} (m : Extends s s′) where
+  -- the same text below the old mark
+  same-front : take (length s) s′ ≡ take (length s) s
+  same-front = m .front ∙ sym (take-length s)
 
--- and so does a leaf that is held
-leaf-longer : (s new : List ℕ) (w : ℕ) → LeafHeld (length s) w → leafOf s w ≡ leafOf (s ++ new) w
-unfolding LeafHeld leafOf
-leaf-longer s new w = by (eqb (kindOf w) 4) (eqb (kindOf w) 3)
-  where
-    by : (x y : Bool) → cond x (Unit {0}) (cond y (startOf w + lengthOf w ≤ length s) (WellFormed (length s) w))
-        → cond x (column (bodyOf w)) (cond y (named (piece (startOf w) (lengthOf w) s)) (literal (valueOf s w)))
-        ≡ cond x (column (bodyOf w)) (cond y (named (piece (startOf w) (lengthOf w) (s ++ new))) (literal (valueOf (s ++ new) w)))
-    by true y h = refl
-    by false true h = ap named (piece-front (length s) (startOf w) (lengthOf w) s (s ++ new) h (take-length s ∙ sym (take-append-seam s new)))
-    by false false h = ap literal (value-longer s new w h)
+  -- a cell that is well formed below the mark means the same there
+  pub value-longer : (w : ℕ) → WellFormed (length s) w → valueOf s w ≡ valueOf s′ w
+  value-longer w h =
+      sym (ap (λ l. valueOf l w) (sym (take-length s′)) ∙ value-more (length s) (length s′) s s′ w (m .longer) h same-front ∙ ap (λ l. valueOf l w) (take-length s))
 
--- and a whole tree
-pub tree-longer : {s s′ : List ℕ} → Extends s s′ → (t : Tree ℕ) → AllHeld (length s) t → mapTree (leafOf s) t ≡ mapTree (leafOf s′) t
-unfolding mapTree AllHeld
-tree-longer {s} m (leaf w) h = rw (m .whole) (ap leaf (leaf-longer s (m .new) w h))
-tree-longer m (unary op a) h = ap (unary op) (tree-longer m a h)
-tree-longer m (binary op a b) h = ap₂ (binary op) (tree-longer m a (h .0)) (tree-longer m b (h .1))
+  -- and so does a leaf that is held
+  leaf-longer : (w : ℕ) → LeafHeld (length s) w → leafOf s w ≡ leafOf s′ w
+  unfolding LeafHeld leafOf
+  leaf-longer w = by (eqb (kindOf w) 4) (eqb (kindOf w) 3)
+    where
+      by : (x y : Bool) → cond x (Unit {0}) (cond y (startOf w + lengthOf w ≤ length s) (WellFormed (length s) w))
+          → cond x (column (bodyOf w)) (cond y (named (piece (startOf w) (lengthOf w) s)) (literal (valueOf s w)))
+          ≡ cond x (column (bodyOf w)) (cond y (named (piece (startOf w) (lengthOf w) s′)) (literal (valueOf s′ w)))
+      by true y h = refl
+      by false true h = ap named (piece-front (length s) (startOf w) (lengthOf w) s s′ h (sym same-front))
+      by false false h = ap literal (value-longer w h)
+
+  -- and a whole tree
+  pub tree-longer : (t : Tree ℕ) → AllHeld (length s) t → mapTree (leafOf s) t ≡ mapTree (leafOf s′) t
+  unfolding mapTree AllHeld
+  tree-longer (leaf w) h = ap leaf (leaf-longer w h)
+  tree-longer (unary op a) h = ap (unary op) (tree-longer a h)
+  tree-longer (binary op a b) h = ap₂ (binary op) (tree-longer a (h .0)) (tree-longer b (h .1))
 
 -- ---- evaluation
 
@@ -106,7 +110,7 @@ module _ (R : Rules) where
     -- the right one
     right-alike : Alike R b s₁ y s₂ → AllHeld (length s) b → evalIn R row s b ≡ evalIn R row s₂ y
     right-alike i h =
-        ap (eval R row) (tree-longer (g .more) b h) ∙ i .alike row (held-higher (length s) (length s₁) b (longer (g .more)) h) (omega (arith, g .few))
+        ap (eval R row) (tree-longer (g .more) b h) ∙ i .alike row (held-higher (length s) (length s₁) b (g .more .longer) h) (omega (arith, g .few))
 
   -- a unary operator that stays
   alike-one : {op : ℕ} {a x : Tree ℕ} {s s₁ : List ℕ} → Alike R a s x s₁ → Alike R (unary op a) s (unary op x) s₁

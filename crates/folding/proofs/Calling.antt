@@ -15,6 +15,7 @@ use Rattle.refusals.specs.declared.Refusal.{Refusal}
 use Rattle.refusals.proofs.First.{never-both}
 use Rattle.slices.specs.Splice.{splice, Wrote}
 use Rattle.slices.proofs.Pieces.{take-own}
+use Rattle.writing.specs.Marked.{wrote}
 use Rattle.checks.specs.Check.{roomStop, outputStop}
 use Rattle.checks.proofs.Turns.{room-there}
 use Rattle.operators.specs.declared.Rules.{Rules}
@@ -29,7 +30,7 @@ use Rattle.postfix.specs.Postfix.{bytesOf, width}
 use Rattle.postfix.proofs.Reading.{width-size}
 use Rattle.replacing.specs.Fold.{Folding, folded, fold}
 use Rattle.replacing.specs.Walk.{FoldAsks, Gives, Says}
-use Rattle.folding.specs.Call.{foldStop, folding, wrote, FoldIs, PreparedIs}
+use Rattle.folding.specs.Call.{foldStop, folding, FoldIs, PreparedIs}
 use Rattle.replacing.specs.declared.Part.{Part}
 use Rattle.replacing.specs.declared.Part.the-variants.{Folded, Refused}
 use Rattle.folding.specs.declared.Shortened.the-variants.{Bytes}

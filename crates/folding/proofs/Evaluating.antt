@@ -8,6 +8,7 @@ use native.Mathlib.Omega.{arith}
 use lib.ListN.{length, getD}
 use Rattle.refusals.specs.Stop.{Stop, never, stop, stopIf, orElse, firstOf}
 use Rattle.refusals.proofs.First.{never-both}
+use Rattle.slices.proofs.Extends.{Extends}
 use Rattle.cells.specs.Cell.{cellStop}
 use Rattle.cells.proofs.Stops.{stop-never, never-stops, well-formed, inside-more}
 use Rattle.checks.specs.Check.{roomStop, cellsStop}
@@ -22,7 +23,7 @@ use Rattle.evaluation.specs.Evaluation.{isRowLength, stops, Result, gave, atZer
 use Rattle.postfix.specs.Postfix.{bytesOf}
 use Rattle.postfix.proofs.Reading.{Readable}
 use Rattle.replacing.specs.Walk.{AllHeld}
-use Rattle.shortening.proofs.Growing.{Extends, longer, grown}
+use Rattle.shortening.proofs.Growing.{grown}
 use Rattle.folding.proofs.Columns.{columnsOf, fold-columns}
 use Rattle.folding.proofs.Alike.{value-longer, fold-alike}
 use Rattle.folding.proofs.ReadBack.{Accepted, was-read, joins-room, now-read}
@@ -45,7 +46,7 @@ unfolding rowOf cellsStop
 row-longer m p [] h = refl
 row-longer {s} m p (w ∷ row) h =
     let q = never-both (cellStop (length s) w p) (cellsStop (length s) (suc p) row) h in
-    ap₂ _∷_ (rw (m .whole) (value-longer s (m .new) w (well-formed (length s) w p (q .0)))) (row-longer m (suc p) row (q .1))
+    ap₂ _∷_ (value-longer m w (well-formed (length s) w p (q .0))) (row-longer m (suc p) row (q .1))
 
 -- ---- an evaluation without its place
 
@@ -124,7 +125,7 @@ module _ {R : Rules} {b stored : List ℕ} {room used output : ℕ} {t′ : Tree
     shown-alike room₁ room₂ h k =
         let w = was-read short bytes whole A in
         let n = now-read short bytes whole A in
-        let c = cells-higher used (length s′) 0 row (omega (arith, whole, longer more)) cells in
+        let c = cells-higher used (length s′) 0 row (omega (arith, whole, more .longer)) cells in
         ap (λ l. shown (evaluation R l row stored room₁ used)) (sym (w .1))
         ∙ evaluation-told R used (A .was) (w .0) (w .2) (w .3) row stored room₁ h cells
         ∙ ap₂ (λ c o. unlessStopped (looked (length row) c) (atZero o)) (sym (fold-columns R short 0 (A .was) t′ stored s′ (A .folds) (joins-room short bytes whole A))) eval-alike

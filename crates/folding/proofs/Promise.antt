@@ -12,6 +12,7 @@ use lib.Dec.{ltb}
 use Rattle.refusals.specs.Told.{told}
 use Rattle.refusals.specs.Stop.{never, stop, stopIf, orElse}
 use Rattle.slices.proofs.Splice.{front-splice}
+use Rattle.writing.specs.Marked.{wrote}
 use Rattle.values.specs.Value.{Value, null, valueOf}
 use Rattle.checks.specs.Check.{roomStop, cellsStop}
 use Rattle.operators.specs.declared.Rules.{Rules}
@@ -21,7 +22,7 @@ use Rattle.evaluation.specs.declared.Evaluated.{Evaluated}
 use Rattle.evaluation.specs.declared.Evaluated.the-variants.{Cell, Refused}
 use Rattle.postfix.specs.Postfix.{bytesOf, width}
 use Rattle.replacing.specs.Fold.{Folding, folded}
-use Rattle.folding.specs.Call.{wrote, report, folding, storedAfter, outputAfter, FoldIs}
+use Rattle.folding.specs.Call.{report, folding, storedAfter, outputAfter, FoldIs}
 use Rattle.folding.specs.declared.Shortened.the-variants.{Bytes}
 use Rattle.folding.proofs.Calling.{there}
 use Rattle.folding.proofs.ReadBack.{Accepted, accepted}

@@ -25,7 +25,7 @@ use Rattle.replacing.specs.Walk.{Literal}
 use Rattle.folding.specs.Call.{foldStop, folding, ofTree, unlessStopped}
 use Rattle.shortening.proofs.Ways.{literalAt, Folds, same, kept-one, kept-two, value-one, value-two, fold-folds}
 use Rattle.replacing.proofs.Literals.{literal-one, literal-two}
-use Rattle.shortening.proofs.Growing.{longer, folds-grown, grown}
+use Rattle.shortening.proofs.Growing.{folds-grown, grown}
 use Rattle.folding.proofs.Calling.{there}
 
 -- ---- readable trees
@@ -77,8 +77,8 @@ module _ (R : Rules) (short : R .limit ≤ 1024) (form : Allowed) where
       let g = folds-grown R short h in (
         r .0,
         r .1,
-        readable-higher form (length s₁) (length s₂) (longer (folds-grown R short k .more)) x (folds-readable h (omega arith) (r .2)),
-        folds-readable k (omega (arith, g .few)) (readable-higher form (length s) (length s₁) (longer (g .more)) b (r .3)),
+        readable-higher form (length s₁) (length s₂) (folds-grown R short k .more .longer) x (folds-readable h (omega arith) (r .2)),
+        folds-readable k (omega (arith, g .few)) (readable-higher form (length s) (length s₁) (g .more .longer) b (r .3)),
       )
   folds-readable (value-one {op} {w} {s₁ = s₁} {v = v} h i e) room r =
       value-readable 0 s₁ v (omega arith) (omega (arith, folds-grown R short h .few)) (literal-one R op s₁ w v e)

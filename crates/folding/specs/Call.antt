@@ -6,6 +6,7 @@ use lib.ListN.{length, take}
 use Rattle.refusals.specs.Told.{told}
 use Rattle.refusals.specs.Stop.{Stop, never, stop, stopOf, firstOf}
 use Rattle.slices.specs.Splice.{splice}
+use Rattle.writing.specs.Marked.{Report, wrote}
 use Rattle.checks.specs.Check.{roomStop, outputStop}
 use Rattle.operators.specs.declared.Rules.{Rules}
 use Rattle.conditions.specs.Ast.{Tree}
@@ -35,12 +36,7 @@ unlessStopped (stop number place) f = Folding.refused number place
 unfoldable pub folding : Rules → List ℕ → List ℕ → ℕ → ℕ → ℕ → Folding
 folding R b stored size used output = unlessStopped (foldStop b size used output) (ofTree (λ t. fold R 0 t stored) (parsed Mixed used b))
 
--- bytes written and the new mark, or a refusal's number and place
-pub data Report : Type 0 where
-  wrote : ℕ → ℕ → Report
-  refused : ℕ → ℕ → Report
-
--- what an answer tells
+-- what an answer tells: bytes written and the new mark, or a refusal's number and place
 abbrev pub reportOf : Shortened → Report
 reportOf (Bytes count mark) = wrote count mark
 reportOf (Refused r) = Report.refused (told r .number) (told r .place)

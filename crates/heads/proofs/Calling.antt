@@ -13,9 +13,10 @@ use Rattle.refusals.specs.declared.Refusal.{Refusal}
 use Rattle.refusals.specs.declared.Refusal.the-variants.{OutputShort}
 use Rattle.slices.specs.Splice.{Wrote}
 use Rattle.slices.proofs.Pieces.{take-own}
+use Rattle.writing.specs.Marked.{wrote}
 use Rattle.tables.specs.Table.{columnCount}
 use Rattle.naming.specs.OneSide.{Head, joined, sideOf}
-use Rattle.heads.specs.Heads.{headOf, headStop, head, ifRoom, wrote, HeadIs}
+use Rattle.heads.specs.Heads.{headOf, headStop, head, ifRoom, HeadIs}
 use Rattle.naming.specs.Side.{ahead, handedOn, SideAsks, SideIs}
 use Rattle.naming.specs.declared.Joined.{Joined}
 use Rattle.naming.specs.declared.Joined.the-variants.{Words, Refused}

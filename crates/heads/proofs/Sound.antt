@@ -1,18 +1,19 @@
 -- The joined columns are well formed under the new mark, and are two words for each column of both sides: a join's condition is bound to them.
 -- Assumes nothing.
-use mathlib.Core.Path.{_≡_, refl, sym, ap, subst, _∙_}
+use mathlib.Core.Path.{_≡_, refl, ap, subst}
 use mathlib.Core.Bool.{Bool, true, false, not, cond}
 use mathlib.Core.List.{List, [], _∷_, _++_}
 use Prim.Native.Nat.{ℕ, suc, _+_, _*_, _^_, _/_, _%_, _≤_, _<_}
 use native.Mathlib.Omega.{arith}
 use native.Mathlib.Nat.{zero-add}
 use lib.ListN.{length, take, length-append}
-use lib.Seq.{length-take-le, take-take, take-length, take-append-seam}
+use lib.Seq.{length-take-le}
 use lib.Dec.{eqb, ltb, leb}
 use borrow.Author.Tests.{eq-eqb, lt-ltb, le-leb, ltb-true, eqb-false, leb-true, not-false}
 use Rattle.refusals.specs.Stop.{Stop, never, stop, stopIf}
 use Rattle.refusals.proofs.First.{never-both, not-stopped}
 use Rattle.slices.specs.Splice.{piece}
+use Rattle.slices.proofs.Extends.{Extends, extends-own, extends-more, extends-then}
 use Rattle.cells.specs.Cell.{startOf, lengthOf, wordOf, Inside}
 use Rattle.cells.specs.declared.ValueRef.the-variants.{Str}
 use Rattle.cells.proofs.Words.{Sized}
@@ -56,26 +57,6 @@ nullable-rule r h = rw (kind-kept r, bound-kept r) (by (ltb r (2 ^ 32)) refl h)
 rule-good : (nullable : Bool) (r : ℕ) → isRule r ≡ true → isRule (ruleOf nullable r) ≡ true
 rule-good true r h = nullable-rule r h
 rule-good false r h = h
-
--- ---- stored text
-
--- a text that has another one at its start
-pub record Extends (stored s : List ℕ) : Type 0 where
-  pub longer : length stored ≤ length s
-  pub front : take (length stored) s ≡ stored
-
--- each text its own, one with more behind it, and one after another
-extends-own : (s : List ℕ) → Extends s s
-extends-own s = record { longer = omega arith; front = take-length s }
-
-extends-more : (s t : List ℕ) → Extends s (s ++ t)
-extends-more s t = record { longer = omega (arith, length-append s t); front = take-append-seam s t }
-
-extends-then : {a b c : List ℕ} → Extends a b → Extends b c → Extends a c
-extends-then {a} {b} {c} e f = record {
-  longer = omega (arith, e .longer, f .longer);
-  front = sym (take-take (length a) (length b) c (e .longer)) ∙ ap (take (length a)) (f .front) ∙ e .front;
-}
 
 -- ---- one name
 

@@ -9,6 +9,7 @@ use lib.Dec.{ltb}
 use Rattle.refusals.specs.Told.{told}
 use Rattle.refusals.specs.Stop.{Stop, never, stop, stopIf, firstOf}
 use Rattle.slices.specs.Splice.{splice}
+use Rattle.writing.specs.Marked.{Report, wrote}
 use Rattle.checks.specs.Check.{roomStop}
 use Rattle.tables.specs.Table.{columnCount, areSides, countStop, columnWordsStop}
 use Rattle.naming.specs.declared.Joined.{Joined}
@@ -45,12 +46,7 @@ unfoldable pub head : Bool → List ℕ → List ℕ → List ℕ → List ℕ �
 head nullable leftName left rightName right stored size used output =
     unlessStopped (headStop leftName left rightName right size used) (ifRoom output (headOf nullable leftName left rightName right stored))
 
--- words written and the new mark, or a refusal's number and place
-pub data Report : Type 0 where
-  wrote : ℕ → ℕ → Report
-  refused : ℕ → ℕ → Report
-
--- what an answer tells
+-- what an answer tells: words written and the new mark, or a refusal's number and place
 abbrev pub reportOf : Joined → Report
 reportOf (Words count mark) = wrote count mark
 reportOf (Refused r) = Report.refused (told r .number) (told r .place)

@@ -1,12 +1,13 @@
 -- What folding does to a tree's size and to the stored text: the tree grows no larger, the text grows at its end, by little, and leaves stay held in it.
 -- Assumes nothing.
-use mathlib.Core.Path.{_≡_, refl, sym, ap, _∙_}
+use mathlib.Core.Path.{_≡_}
 use mathlib.Core.Bool.{Bool, true, false, cond}
-use mathlib.Core.List.{List, [], _++_, append-assoc, append-nil}
+use mathlib.Core.List.{List, _++_}
 use Prim.Native.Nat.{ℕ, _+_, _*_, _≤_}
 use native.Mathlib.Omega.{arith}
 use lib.ListN.{length, length-append}
 use lib.Dec.{eqb}
+use Rattle.slices.proofs.Extends.{Extends, extends-own, extends-more, extends-then}
 use Rattle.cells.specs.Cell.{WellFormed, kindOf, startOf, lengthOf, wordOf}
 use Rattle.cells.proofs.Stops.{inside-more}
 use Rattle.values.specs.Value.{Value}
@@ -19,11 +20,6 @@ use Rattle.replacing.specs.Walk.{AllHeld, Literal}
 use Rattle.replacing.specs.Fold.{folded, appended, fold}
 use Rattle.shortening.proofs.Ways.{literalAt, Folds, same, kept-one, kept-two, value-one, value-two, fold-folds}
 use Rattle.replacing.proofs.Literals.{literal-one, literal-two, literal-kind, literal-well, literal-grows, held-literal}
-
--- the text with something after it
-pub record Extends (s s′ : List ℕ) : Type 0 where
-  pub new : List ℕ
-  pub whole : s′ ≡ s ++ new
 
 -- a tree and the stored text before it, the folded tree and the stored text after it
 pub record Grown (t : Tree ℕ) (s : List ℕ) (t′ : Tree ℕ) (s′ : List ℕ) : Type 0 where
@@ -52,27 +48,11 @@ held-higher m n (leaf w) l h = leaf-higher m n w l h
 held-higher m n (unary op a) l h = held-higher m n a l h
 held-higher m n (binary op a b) l h = (held-higher m n a l (h .0), held-higher m n b l (h .1))
 
--- ---- more text
-
--- nothing after it
-more-none : (s : List ℕ) → Extends s s
-more-none s = record { new = []; whole = sym (append-nil s) }
-
--- something, then something more
-more-then : {s s₁ s₂ : List ℕ} → Extends s s₁ → Extends s₁ s₂ → Extends s s₂
-more-then {s} m n = record { new = m .new ++ n .new; whole = n .whole ∙ ap (λ l. l ++ n .new) (m .whole) ∙ append-assoc s (m .new) (n .new) }
-
--- the longer text is no shorter
-pub longer : {s s′ : List ℕ} → Extends s s′ → length s ≤ length s′
-longer {s} m = omega (arith, ap length (m .whole), length-append s (m .new))
-
--- ---- trees
-
 -- ---- by the ways of folding
 
 -- a leaf stays
 grown-same : (w : ℕ) (s : List ℕ) → Grown (leaf w) s (leaf w) s
-grown-same w s = record { more = more-none s; few = omega arith; small = omega arith; shallow = omega arith; held = λ h room. h }
+grown-same w s = record { more = extends-own s; few = omega arith; small = omega arith; shallow = omega arith; held = λ h room. h }
 
 -- a unary operator that stays
 grown-one : {op : ℕ} {a x : Tree ℕ} {s s₁ : List ℕ} → Grown a s x s₁ → Grown (unary op a) s (unary op x) s₁
@@ -83,13 +63,13 @@ grown-one g = record { more = g .more; few = g .few; small = omega arith; shallo
 grown-two : {op : ℕ} {a b x y : Tree ℕ} {s s₁ s₂ : List ℕ} → Grown a s x s₁ → Grown b s₁ y s₂ → Grown (binary op a b) s (binary op x y) s₂
 unfolding size height joins AllHeld
 grown-two {b = b} {x = x} {s = s} {s₁ = s₁} {s₂ = s₂} g k = record {
-  more = more-then (g .more) (k .more);
+  more = extends-then (g .more) (k .more);
   few = omega (arith, g .few, k .few);
   small = omega arith;
   shallow = omega arith;
   held = λ h room. (
-    held-higher (length s₁) (length s₂) x (longer (k .more)) (g .held (h .0) (omega arith)),
-    k .held (held-higher (length s) (length s₁) b (longer (g .more)) (h .1)) (omega (arith, g .few)),
+    held-higher (length s₁) (length s₂) x (k .more .longer) (g .held (h .0) (omega arith)),
+    k .held (held-higher (length s) (length s₁) b (g .more .longer) (h .1)) (omega (arith, g .few)),
   );
 }
 
@@ -98,7 +78,7 @@ grown-value : (t : Tree ℕ) (s s₁ : List ℕ) (most : ℕ) (v : Value) → mo
     → Grown t s (literalAt s₁ v) (s₁ ++ appended v)
 unfolding size height AllHeld
 grown-value t s s₁ most v short m l h = record {
-  more = more-then m (record { new = appended v; whole = refl });
+  more = extends-then m (extends-more s₁ (appended v));
   few = omega (arith, length-append s₁ (appended v), literal-grows most v h);
   small = size-pos t;
   shallow = height-pos t;
@@ -119,7 +99,7 @@ module _ (R : Rules) (short : R .limit ≤ 1024) where
   folds-grown (value-two {op} {w} {u} {a} {b} {s} {s₁} {s₂} {v} h k l i j e) =
       let g = folds-grown h in
       let q = folds-grown k in
-      grown-value (binary op a b) s s₂ (R .limit) v short (more-then (g .more) (q .more)) (omega (arith, g .few, q .few))
+      grown-value (binary op a b) s s₂ (R .limit) v short (extends-then (g .more) (q .more)) (omega (arith, g .few, q .few))
       (literal-two R op s₂ w u v e)
 
   -- what an accepted folding does

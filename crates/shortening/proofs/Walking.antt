@@ -36,7 +36,7 @@ use Rattle.replacing.specs.Fold.{Folding, andFold, fold, foldOne, foldTwo}
 use Rattle.replacing.specs.Walk.{AllHeld, root, Rooted, Stored, Stands, StandTwo, Says, TwoAsks, FoldAsks, Gives}
 use Rattle.replacing.specs.declared.Part.{Part}
 use Rattle.replacing.specs.declared.Part.the-variants.{Folded, Refused}
-use Rattle.shortening.proofs.Growing.{Grown, grown, longer, held-higher}
+use Rattle.shortening.proofs.Growing.{Grown, grown, held-higher}
 use Rattle.replacing.proofs.Standing.{root-well}
 
 -- ---- the walk
@@ -204,7 +204,7 @@ module _ (R : Rules) (used top depth k at end : ℕ) (nodes text out : List ℕ)
         middle-is = left-said .3 .place ∙ ap (λ n. n + width (left-said .0)) (sym ahead)
 
         rises : top ≤ u
-        rises = omega (arith, long, left-said .4 .long, longer (left-grew .more))
+        rises = omega (arith, long, left-said .4 .long, left-grew .more .longer)
 
         pub right-asks : FoldAsks R used u (depth - 1) (k - 1) next middle nodes text₁ out₁ aᵣ
         right-asks = record {
@@ -254,7 +254,7 @@ module _ (R : Rules) (used top depth k at end : ℕ) (nodes text out : List ℕ)
             end-is = right-said .3 .place ∙ ap (λ n. n + width (right-said .0)) middle-long
 
             rises-more : u ≤ v
-            rises-more = omega (arith, stored-is, right-said .4 .long, longer (right-grew .more))
+            rises-more = omega (arith, stored-is, right-said .4 .long, right-grew .more .longer)
 
             standing : StandTwo front (left-said .0) (right-said .0) (right-said .1) left right after out₂
             standing = record {

@@ -3,3 +3,4 @@ pub mod Splice
 pub mod Pieces
 pub mod Bytes
 pub mod Both
+pub mod Extends
