@@ -3,6 +3,7 @@ ghost use mathlib.Core.Path.{_≡_};
 ghost use Prim.Native.Nat.{_<_};
 ghost use lib.ListN.{length};
 ghost use Rattle.refusals.specs.Stop.{checkedOf};
+ghost use Rattle.operators.specs.Operator.{base};
 ghost use Rattle.forms.specs.Number.{isMissing, numbersStop};
 ghost use Rattle.evaluation.specs.Evaluation.{PreparedIs, EvaluatedIs};
 use forms::Scanned;
@@ -84,7 +85,7 @@ fn prepare(condition: &[u8], row: &[u64], size: usize, used: usize, nodes: &mut 
 
 // `evaluate` by the table of nodes, with the rules of the base.
 fn walk(condition: &[u8], row: &[u64], text: &mut [u8], used: usize) -> Evaluated
-    ensures { λ r. ⌜ EvaluatedIs (record { limit = 1024 }) (now (condition .entry)) (now (row .entry)) (now (text .entry)) (now (text .exit)) used r ⌝ }
+    ensures { λ r. ⌜ EvaluatedIs base (now (condition .entry)) (now (row .entry)) (now (text .entry)) (now (text .exit)) used r ⌝ }
 {
     let mut table = [0u64; 64];
     match prepare(condition, row, text.len(), used, &mut table) {
@@ -111,7 +112,7 @@ fn walk(condition: &[u8], row: &[u64], text: &mut [u8], used: usize) -> Evaluate
 
 // `evaluate`, with the rules of the base: in one pass where that gives a cell.
 pub fn evaluate(condition: &[u8], row: &[u64], text: &mut [u8], used: usize) -> Evaluated
-    ensures { λ r. ⌜ EvaluatedIs (record { limit = 1024 }) (now (condition .entry)) (now (row .entry)) (now (text .entry)) (now (text .exit)) used r ⌝ }
+    ensures { λ r. ⌜ EvaluatedIs base (now (condition .entry)) (now (row .entry)) (now (text .entry)) (now (text .exit)) used r ⌝ }
 {
     let word = straight::evaluate(condition, row, text, used);
     if word != 0xffff_ffff_ffff_ffff {

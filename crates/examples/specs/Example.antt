@@ -7,8 +7,7 @@ use Rattle.slices.specs.Bytes.{both, isEqual, sameBytes}
 use Rattle.values.specs.Value.{Value}
 use Rattle.values.specs.Order.{order}
 use Rattle.integers.specs.Outcome.{Outcome, value}
-use Rattle.operators.specs.Operator.{unaryOf, binaryOf}
-use Rattle.operators.specs.declared.Rules.{Rules}
+use Rattle.operators.specs.Operator.{unaryOf, binaryOf, base}
 use Rattle.evaluation.specs.Evaluation.{Result, gave, evaluation}
 use Rattle.postfix.specs.Postfix.{bytesOf}
 use Rattle.replacing.specs.Fold.{Folding, folded}
@@ -37,10 +36,6 @@ pub record Example : Type 0 where
   pub number : ℕ
   pub call : Call
   pub answer : Expected
-
--- the rules of the base
-abbrev pub base : Rules
-base = record { limit = 1024 }
 
 -- what an operator comes to
 abbrev pub ofOutcome : Outcome → Expected

@@ -1,6 +1,7 @@
 // Folding: operators over literals give way to their values.
 ghost use mathlib.Core.Path.{_≡_};
 ghost use lib.ListN.{length, take};
+ghost use Rattle.operators.specs.Operator.{base};
 ghost use Rattle.folding.specs.Call.{PreparedIs, FoldIs, folding};
 use forms::Scanned;
 use nodes::Allowed;
@@ -33,7 +34,7 @@ fn prepare(condition: &[u8], size: usize, used: usize, output: usize, nodes: &mu
 
 // `fold`, with the rules of the base: the folded bytes are put together in a buffer of their own, since a refused call leaves the output alone.
 pub fn fold(condition: &[u8], text: &mut [u8], used: usize, out: &mut [u8]) -> Shortened
-    ensures { λ r. ⌜ FoldIs (folding (record { limit = 1024 }) (now (condition .entry)) (take used (now (text .entry))) (length (now (text .entry))) used (length (now (out .entry))))
+    ensures { λ r. ⌜ FoldIs (folding base (now (condition .entry)) (take used (now (text .entry))) (length (now (text .entry))) used (length (now (out .entry))))
         (take used (now (text .entry))) (now (text .exit)) (now (out .entry)) (now (out .exit)) r ⌝ }
 {
     let mut table = [0u64; 64];

@@ -15,10 +15,11 @@ use Rattle.refusals.specs.declared.Refusal.{Refusal}
 use Rattle.slices.specs.Splice.{piece, splice}
 use Rattle.slices.proofs.Splice.{splice-nil, splice-set}
 use Rattle.slices.proofs.Pieces.{piece-length}
+use Rattle.operators.specs.Operator.{base}
 use Rattle.testing.specs.Test.{Tested, is, test, VerdictIs, TestIs, TestAsks}
 use Rattle.testing.specs.declared.Verdict.{Verdict}
 use Rattle.testing.specs.declared.Verdict.the-variants.{Yes, No}
-use Rattle.testing.proofs.Testing.{base, no-condition}
+use Rattle.testing.proofs.Testing.{no-condition}
 use Rattle.marking.specs.RowList.{Test, isTrue, stopAt, keptFrom, trueRows, refusedFrom}
 use Rattle.marking.specs.Marks.{part, testOf, flagsFrom, MarkAsks, MarkedIs, Says}
 use Rattle.marking.specs.Whole.{MarkIs, RowIs}

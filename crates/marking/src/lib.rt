@@ -3,6 +3,7 @@ ghost use mathlib.Core.Path.{_≡_};
 ghost use mathlib.Core.List.{List};
 ghost use Prim.Native.Nat.{ℕ};
 ghost use lib.ListN.{take};
+ghost use Rattle.operators.specs.Operator.{base};
 ghost use Rattle.testing.specs.Test.{test, conditionStop, TestAsks};
 ghost use Rattle.marking.specs.Marks.{testOf, MarkAsks, MarkedIs};
 ghost use Rattle.marking.specs.Whole.{RowIs, TableAsks, TableIs};
@@ -27,7 +28,7 @@ fn mark_row(
 ) -> Marked
     requires { ⌜ ((b : List ℕ) × TestAsks b used count (now nodes) (now row) (now text)) ⌝ }
     ensures { λ r. ⌜ ((b : List ℕ) → TestAsks b used count (now (nodes .entry)) (now (row .entry)) (now (text .entry)) →
-        RowIs used place count (now (text .entry)) (now (text .exit)) r (test (record { limit = 1024 }) b used (take used (now (text .entry))) (now (row .entry)))) ⌝ }
+        RowIs used place count (now (text .entry)) (now (text .exit)) r (test base b used (take used (now (text .entry))) (now (row .entry)))) ⌝ }
 {
     if count == 0 {
         return Marked::Rows(1);
@@ -56,7 +57,7 @@ pub fn mark_rows(
 ) -> Marked
     requires { ⌜ ((b : List ℕ) × MarkAsks b used count n width (now nodes) (now rows) (now text) (now marks)) ⌝ }
     ensures { λ r. ⌜ ((b : List ℕ) → MarkAsks b used count n width (now (nodes .entry)) (now (rows .entry)) (now (text .entry)) (now (marks .entry)) →
-        MarkedIs (testOf (record { limit = 1024 }) b used (take used (now (text .entry))) (now (rows .entry)) width) n used (now (text .entry)) (now (text .exit))
+        MarkedIs (testOf base b used (take used (now (text .entry))) (now (rows .entry)) width) n used (now (text .entry)) (now (text .exit))
         (now (marks .entry)) (now (marks .exit)) r) ⌝ }
     ensures { λ r. ⌜ (count ≡ 0 → now (text .exit) ≡ now (text .entry)) ⌝ }
 {
@@ -87,7 +88,7 @@ pub fn mark_table(
 ) -> Marked
     requires { ⌜ TableAsks (now condition) used n width (now rows) (now text) (now marks) ⌝ }
     ensures { λ r. ⌜ TableIs (now (condition .entry)) (conditionStop used width (now (condition .entry)))
-        (testOf (record { limit = 1024 }) (now (condition .entry)) used (take used (now (text .entry))) (now (rows .entry)) width) n used
+        (testOf base (now (condition .entry)) used (take used (now (text .entry))) (now (rows .entry)) width) n used
         (now (text .entry)) (now (text .exit)) (now (marks .entry)) (now (marks .exit)) r ⌝ }
 {
     let mut nodes = [0u64; 64];

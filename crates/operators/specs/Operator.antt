@@ -27,6 +27,10 @@ holds op o =
 unfoldable pub compared : Rules → ℕ → Value → Value → Outcome
 compared R op v w = value (fromBool (holds op (order v w)))
 
+-- the rules of the base: a joined text has at most 1,024 bytes
+abbrev pub base : Rules
+base = record { limit = 1024 }
+
 -- one text after the other, or 7 over the limit
 unfoldable pub joined : ℕ → List ℕ → List ℕ → Outcome
 joined limit a b = cond (leb (length a + length b) limit) (value (str (a ++ b))) (Outcome.refused 7)

@@ -5,13 +5,14 @@ use mathlib.Core.List.{List, []}
 use lib.ListN.{length, take}
 use Rattle.refusals.specs.Stop.{never, stop}
 use Rattle.writing.specs.declared.Written.{Written}
+use Rattle.operators.specs.Operator.{base}
 use Rattle.entries.specs.Entries.{Row, rowIn, Given, listWords, Outcome, answered, refused, leftJoin, innerJoin}
 use Rattle.joins.specs.Join.{rowsOf, isWhole, givenOf, OutcomeIs}
 use Rattle.answers.specs.Answer.{accepted, ofWritten}
 use Rattle.answers.specs.Tells.{Tells}
 use Rattle.answers.specs.declared.Answer.{Answer}
 use Rattle.answers.proofs.Fields.{stopped, written-fields}
-use Rattle.ruffleknoll.specs.Calls.{base, InnerJoins, LeftJoins}
+use Rattle.ruffleknoll.specs.Calls.{InnerJoins, LeftJoins}
 
 -- the rows written are the entries listed
 abbrev pub ofOutcome : ℕ → Outcome → Answer

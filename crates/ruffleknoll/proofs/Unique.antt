@@ -6,6 +6,7 @@ use mathlib.Core.Bool.{Bool}
 use mathlib.Core.List.{List}
 use lib.ListN.{length, take}
 use Rattle.writing.specs.declared.Written.{Written}
+use Rattle.operators.specs.Operator.{base}
 use Rattle.folding.specs.Call as folding
 use Rattle.folding.specs.Call.{FoldIs}
 use Rattle.replacing.specs.Fold.{Folding}
@@ -35,7 +36,7 @@ use Rattle.answers.specs.Earlier.{whichEarlier, unlessStopped, whichOf}
 use Rattle.answers.specs.declared.Answer.{Answer}
 use Rattle.answers.specs.declared.Part.{Part}
 use Rattle.answers.proofs.Unique.{OneEvaluated, one-evaluated, one-folded, one-joined, one-part, one-struct}
-use Rattle.ruffleknoll.specs.Calls.{base, Evaluates, Folds, Binds, Conjoins, Prints, JoinsColumns, Selects, InnerJoins, LeftJoins, Deletes, Updates, Inserts, TextKept}
+use Rattle.ruffleknoll.specs.Calls.{Evaluates, Folds, Binds, Conjoins, Prints, JoinsColumns, Selects, InnerJoins, LeftJoins, Deletes, Updates, Inserts, TextKept}
 
 -- two lent texts that are as long as each other and the same below the mark
 pub record SameBelow (used : ℕ) (text text′ : List ℕ) : Type 0 where

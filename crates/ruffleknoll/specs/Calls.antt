@@ -6,7 +6,7 @@ use mathlib.Core.Bool.{Bool}
 use mathlib.Core.List.{List}
 use lib.ListN.{length, take}
 use Rattle.writing.specs.declared.Written.{Written}
-use Rattle.operators.specs.declared.Rules.{Rules}
+use Rattle.operators.specs.Operator.{base}
 use Rattle.evaluation.specs.Evaluation.{EvaluatedIs}
 use Rattle.evaluation.specs.declared.Evaluated.{Evaluated}
 use Rattle.folding.specs.Call.{FoldIs, folding}
@@ -23,10 +23,6 @@ use Rattle.inserting.specs.Insert.{InsertIs}
 use Rattle.answers.specs.Answer.{ofEvaluated, ofShortened, ofWritten, ofJoined}
 use Rattle.answers.specs.Tells.{Tells}
 use Rattle.answers.specs.declared.Answer.{Answer}
-
--- the rules of the base: a text of at most 1,024 bytes is computed
-abbrev pub base : Rules
-base = record { limit = 1024 }
 
 -- what `evaluate` tells and leaves
 abbrev pub Evaluates : (condition row text : List ℕ) (used : ℕ) (after : List ℕ) → Answer → Type 0

@@ -17,7 +17,6 @@ use Rattle.writing.specs.declared.Written.the-variants.{Refused}
 use Rattle.writing.proofs.Answers.{refused-is}
 use Rattle.tables.specs.Table.{columnCount}
 use Rattle.testing.specs.Test.{conditionStop}
-use Rattle.testing.proofs.Testing.{base}
 use Rattle.marking.specs.RowList.{Test, isTrue, keptFrom, trueRows, otherRows, refusedFrom, wordsOf}
 use Rattle.marking.specs.Marks.{testOf, flagsFrom}
 use Rattle.marking.specs.Whole.{SaysWhole, TableIs}
@@ -28,6 +27,7 @@ use Rattle.projecting.specs.Project.{listStop, hasMark, markedWords}
 use Rattle.projecting.proofs.Listing.{empty-list}
 use Rattle.keeping.specs.Table.{rowCount, tableStop}
 use Rattle.checks.specs.Check.{shortStop}
+use Rattle.operators.specs.Operator.{base}
 use Rattle.selecting.specs.Select.{selected, SelectIs, remaining, DeleteIs}
 use Rattle.keeping.specs.Kept.{KeptAsks}
 use Rattle.keeping.proofs.Passing.{Passed}

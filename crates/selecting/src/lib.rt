@@ -1,6 +1,7 @@
 // The calls select and delete.
 ghost use mathlib.Core.Path.{_≡_};
 ghost use lib.ListN.{length, take};
+ghost use Rattle.operators.specs.Operator.{base};
 ghost use Rattle.selecting.specs.Select.{SelectIs, DeleteIs};
 use marking::Marked;
 use refusals::Checked;
@@ -16,7 +17,7 @@ pub fn select(
     used: usize,
     out: &mut [u64],
 ) -> Written
-    ensures { λ r. ⌜ SelectIs (record { limit = 1024 }) (now (columns .entry)) (now (rows .entry)) (now (list .entry)) (now (condition .entry))
+    ensures { λ r. ⌜ SelectIs base (now (columns .entry)) (now (rows .entry)) (now (list .entry)) (now (condition .entry))
         (take used (now (text .entry))) (length (now (text .entry))) used (now (out .entry)) (now (out .exit)) r ⌝ }
     ensures { λ r. ⌜ (take used (now (text .exit)) ≡ take used (now (text .entry))) × (length (now (condition .entry)) ≡ 0 → now (text .exit) ≡ now (text .entry)) ⌝ }
 {
@@ -46,7 +47,7 @@ pub fn delete(
     used: usize,
     out: &mut [u64],
 ) -> Written
-    ensures { λ r. ⌜ DeleteIs (record { limit = 1024 }) (now (columns .entry)) (now (rows .entry)) (now (condition .entry))
+    ensures { λ r. ⌜ DeleteIs base (now (columns .entry)) (now (rows .entry)) (now (condition .entry))
         (take used (now (text .entry))) (length (now (text .entry))) used (now (out .entry)) (now (out .exit)) r ⌝ }
     ensures { λ r. ⌜ (take used (now (text .exit)) ≡ take used (now (text .entry))) × (length (now (condition .entry)) ≡ 0 → now (text .exit) ≡ now (text .entry)) ⌝ }
 {

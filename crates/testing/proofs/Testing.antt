@@ -14,7 +14,7 @@ use Rattle.cells.specs.Cell.{WellFormed}
 use Rattle.values.specs.Value.{valueOf, toBool}
 use Rattle.integers.specs.declared.Answer.{Answer}
 use Rattle.integers.specs.declared.Answer.the-variants.{Gave, Overflow, ShiftAmount, TooLong}
-use Rattle.operators.specs.declared.Rules.{Rules}
+use Rattle.operators.specs.Operator.{base}
 use Rattle.conditions.specs.Ast.{eval}
 use Rattle.conditions.specs.Table.{rowOf, treeOf, Asks, Answers}
 use Rattle.nodes.specs.declared.Allowed.the-variants.{Bound}
@@ -29,9 +29,6 @@ use Rattle.quick.proofs.Walking.{stored-long, stands}
 use Rattle.testing.specs.Test.{Tested, is, testedOf, test, VerdictIs, TestIs, TestAsks}
 use Rattle.testing.specs.declared.Verdict.{Verdict}
 use Rattle.testing.specs.declared.Verdict.the-variants.{Yes, No, Refused}
-
-abbrev pub base : Rules
-base = record { limit = 1024 }
 
 -- a truth as a number
 pub byte-is : (y : Bool) → is y ≡ is (eqb (boolByte y) 1)

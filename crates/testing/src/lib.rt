@@ -5,6 +5,7 @@ ghost use Prim.Native.Nat.{ℕ};
 ghost use lib.ListN.{length, take};
 ghost use Rattle.cells.specs.Cell.{WellFormed};
 ghost use Rattle.values.specs.Value.{valueOf, toBool};
+ghost use Rattle.operators.specs.Operator.{base};
 ghost use Rattle.testing.specs.Test.{is, test, VerdictIs, TriedIs, PreparedIs, TestAsks, TestIs};
 use forms::Scanned;
 use integers::Answer;
@@ -53,7 +54,7 @@ fn by_truth(word: u64) -> Verdict
 pub fn try_row(nodes: &[u64], n: usize, row: &[u64], text: &[u8], used: usize) -> usize
     requires { ⌜ ((b : List ℕ) × TestAsks b used n (now nodes) (now row) (now text)) × (n ≡ 0 → ⊥) ⌝ }
     ensures { λ r. ⌜ ((b : List ℕ) → TestAsks b used n (now (nodes .entry)) (now (row .entry)) (now (text .entry)) →
-        TriedIs r (test (record { limit = 1024 }) b used (take used (now (text .entry))) (now (row .entry)))) ⌝ }
+        TriedIs r (test base b used (take used (now (text .entry))) (now (row .entry)))) ⌝ }
 {
     let word = quick::word_of(nodes, n - 1, 16, row, &text[..used]);
     if word == wordwise::NOTHING {
@@ -73,7 +74,7 @@ pub fn test_row(
 ) -> Verdict
     requires { ⌜ ((b : List ℕ) × TestAsks b used n (now nodes) (now row) (now text)) ⌝ }
     ensures { λ r. ⌜ ((b : List ℕ) → TestAsks b used n (now (nodes .entry)) (now (row .entry)) (now (text .entry)) →
-        TestIs used place (now (text .entry)) (now (text .exit)) r (test (record { limit = 1024 }) b used (take used (now (text .entry))) (now (row .entry)))) ⌝ }
+        TestIs used place (now (text .entry)) (now (text .exit)) r (test base b used (take used (now (text .entry))) (now (row .entry)))) ⌝ }
 {
     if n == 0 {
         return Verdict::Yes;

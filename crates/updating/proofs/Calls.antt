@@ -16,13 +16,13 @@ use Rattle.writing.specs.declared.Written.the-variants.{Refused}
 use Rattle.writing.proofs.Answers.{refused-is}
 use Rattle.checks.proofs.Turns.{room-there}
 use Rattle.testing.specs.Test.{roomFor}
-use Rattle.testing.proofs.Testing.{base}
 use Rattle.marking.specs.RowList.{isTrue}
 use Rattle.marking.specs.Marks.{part}
 use Rattle.marking.specs.declared.Marked.{Marked}
 use Rattle.marking.specs.declared.Marked.the-variants.{Rows}
 use Rattle.marking.proofs.Lists.{mark-at}
 use Rattle.checks.specs.Check.{shortStop}
+use Rattle.operators.specs.Operator.{base}
 use Rattle.selecting.proofs.Calls.{Question, widthOf, countOf, testFor, TableStop, PassedBy, MarkedBy, written-as, refused-rows, says, passed-rows}
 use Rattle.setting.specs.Sets.{areSets, setsStop, applied}
 use Rattle.updating.specs.Update.{updated, UpdateIs}

@@ -5,6 +5,7 @@ ghost use lib.ListN.{length, take};
 ghost use Rattle.slices.specs.Splice.{Wrote};
 ghost use Rattle.writing.specs.Writing.{WrittenIs};
 ghost use Rattle.checks.specs.Check.{shortStop};
+ghost use Rattle.operators.specs.Operator.{base};
 ghost use Rattle.updating.specs.Update.{UpdateIs};
 ghost use Rattle.setting.specs.Asked.{allWords, AllAsked};
 use marking::Marked;
@@ -65,7 +66,7 @@ pub fn update(
     used: usize,
     out: &mut [u64],
 ) -> Written
-    ensures { λ r. ⌜ UpdateIs (record { limit = 1024 }) (now (columns .entry)) (now (rows .entry)) (now (sets .entry)) (now (condition .entry))
+    ensures { λ r. ⌜ UpdateIs base (now (columns .entry)) (now (rows .entry)) (now (sets .entry)) (now (condition .entry))
         (take used (now (text .entry))) (length (now (text .entry))) used (now (out .entry)) (now (out .exit)) r ⌝ }
     ensures { λ r. ⌜ (take used (now (text .exit)) ≡ take used (now (text .entry))) × (length (now (condition .entry)) ≡ 0 → now (text .exit) ≡ now (text .entry)) ⌝ }
 {

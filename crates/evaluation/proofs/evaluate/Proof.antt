@@ -1,4 +1,5 @@
 -- `evaluation::evaluate` meets its contract. Assumes nothing.
+use Rattle.operators.specs.Operator.{base}
 use Rattle.evaluation.proofs.Passing.{passed}
 use borrow.Author.Needs.{needs}
 use Rattle.evaluation.proofs.evaluate.Statement.{statement}
@@ -11,7 +12,7 @@ same-length : tie.Need-same-length
 same-length c = search needs
 
 returns : tie.Need-returns
-returns c = passed (record { limit = 1024 }) _ _ _ _ _ (c .before .evaluate .ensures (c .if1 .taken))
+returns c = passed base _ _ _ _ _ (c .before .evaluate .ensures (c .if1 .taken))
 
 walk-requires : tie.Need-walk-requires
 walk-requires c κs = search needs

@@ -5,7 +5,7 @@ use mathlib.Core.List.{List}
 use Prim.Native.Nat.{ℕ, _-_, _≤_}
 use lib.ListN.{length, getD}
 use Rattle.integers.specs.declared.Answer.{Answer}
-use Rattle.operators.specs.declared.Rules.{Rules}
+use Rattle.operators.specs.Operator.{base}
 use Rattle.conditions.specs.Table.{nodeOf, Asks, Answers, Lies}
 use Rattle.forms.specs.declared.Scanned.the-variants.{Table}
 use Rattle.evaluation.specs.Evaluation.{EvaluatedIs, PreparedIs}
@@ -14,9 +14,6 @@ use native.Mathlib.Omega.{arith}
 use borrow.Author.Needs.{needs}
 use Rattle.evaluation.proofs.walk.Statement.{statement}
 use Rattle.evaluation.proofs.walk.Tie as tie
-
-abbrev base : Rules
-base = record { limit = 1024 }
 
 -- the table is there: evaluation may begin, and what it answers is what is answered here
 module _ (c : tie.After-known-told2) where

@@ -4,15 +4,12 @@ use mathlib.Core.Path.{refl, sym, subst}
 use native.Mathlib.Omega.{arith}
 use lib.ListN.{length, replicate}
 use lib.Seq.{length-take-le}
-use Rattle.operators.specs.declared.Rules.{Rules}
+use Rattle.operators.specs.Operator.{base}
 use Rattle.folding.specs.Call.{PreparedIs}
 use Rattle.folding.proofs.Calling.{denied, some, asks, folding-refused, end-small, copy-room, folding-wrote}
 use borrow.Author.Needs.{needs}
 use Rattle.folding.proofs.fold.Statement.{statement}
 use Rattle.folding.proofs.fold.Tie as tie
-
-abbrev base : Rules
-base = record { limit = 1024 }
 
 slice-aggregate-prepare : tie.Need-slice-aggregate-prepare
 slice-aggregate-prepare c = search needs

@@ -4,7 +4,7 @@ use mathlib.Core.Path.{_∙_}
 use Prim.Native.Nat.{_-_, _*_, _+_, _≤_}
 use native.Mathlib.Omega.{arith}
 use lib.ListN.{length, take}
-use Rattle.testing.proofs.Testing.{base}
+use Rattle.operators.specs.Operator.{base}
 use Rattle.marking.specs.Marks.{testOf}
 use Rattle.marking.proofs.Marking.{Marking, MarkLoop, row-inside, loop-start, loop-end, row-asks, loop-turn, loop-refused, loop-alone}
 use borrow.Author.Needs.{needs}
