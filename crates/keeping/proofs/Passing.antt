@@ -17,7 +17,7 @@ use Rattle.evaluation.proofs.Stopping.{row-right}
 use Rattle.tables.specs.Table.{columnCount, isTable, areRows, countStop, wordsStop}
 use Rattle.tables.proofs.Words.{Counted, table-counted, words-sound, count-right, rows-whole}
 use Rattle.testing.specs.Test.{roomFor}
-use Rattle.marking.specs.Whole.{TableAsks}
+use Rattle.marking.specs.Marks.{TableAsks}
 use Rattle.marking.proofs.Lists.{cells-anywhere}
 use Rattle.keeping.specs.Table.{rowCount, tableStop}
 

@@ -80,7 +80,7 @@ module _ (t : Test) (n : ℕ) (before : List ℕ) where
 
   module _ (i k : ℕ) (marks : List ℕ) (M : Marking t n before i k marks) where
     -- every row is marked
-    pub marking-end : n ≤ i → Says t n before marks (Rows k)
+    pub marking-end : n ≤ i → Says never t n before marks (Rows k)
     marking-end h = (
       M .refused ∙ refused-end i n h t,
       sym (M .counted ∙ (rw (kept-end i n h (λ j. isTrue (t j))) (omega arith))),
@@ -148,14 +148,14 @@ module _ (count used n width : ℕ) (nodes rows text₀ marks₀ : List ℕ) whe
       -- what the test of the row asks
       pub row-asks : (b : List ℕ) → MarkAsks b used count n width nodes rows text₀ marks₀ → TestAsks b used count nodes (rowRead rows width i) text
       row-asks b A =
-          let l : length (part rows width i) ≡ width = piece-length (i * width) width rows (omega (arith, row-inside n width i h, A .whole)) in
+          let l : length (part rows width i) ≡ width = piece-length (i * width) width rows (omega (arith, row-inside n width i h, A .table .whole)) in
           rw (row-read rows width i) (record {
             bytes = A .bytes;
             long = A .long;
             ready = rw l (A .ready);
-            room = rw (L .size) (A .room);
-            width = rw l (A .wide);
-            cells = cells-part used 0 0 (i * width) width rows (A .cells 0);
+            room = rw (L .size) (A .table .room);
+            width = rw l (A .table .wide);
+            cells = cells-part used 0 0 (i * width) width rows (A .table .cells 0);
           })
 
       module _ (text′ : List ℕ) (e : length text′ ≡ length text) (one : Marked)
@@ -175,7 +175,7 @@ module _ (count used n width : ℕ) (nodes rows text₀ marks₀ : List ℕ) whe
               kept = marked-one b A (Rows m) q .kept ∙ L .kept;
               size = e ∙ L .size;
               alone = λ z. marked-one b A (Rows m) q .alone z ∙ L .alone z;
-              marking = λ b A. let s = marked-one b A (Rows m) q .says in marking-turn _ n marks₀ i k marks (L .marking b A) h m (A .space) (s .0) (s .1);
+              marking = λ b A. let s = marked-one b A (Rows m) q .says in marking-turn _ n marks₀ i k marks (L .marking b A) h m (A .table .space) (s .0) (s .1);
             }
 
         -- a row is refused

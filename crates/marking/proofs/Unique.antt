@@ -9,7 +9,7 @@ use Rattle.refusals.proofs.Unique.{one-refusal}
 use Rattle.operators.specs.declared.Rules.{Rules}
 use Rattle.marking.specs.RowList.{Test}
 use Rattle.marking.specs.Marks.{testOf, MarkAsks, Says, MarkedIs}
-use Rattle.marking.specs.Whole.{SaysWhole, TableIs}
+use Rattle.marking.specs.Whole.{TableIs}
 use Rattle.marking.specs.declared.Marked.{Marked}
 use Rattle.marking.specs.declared.Marked.the-variants.{Rows, Refused}
 
@@ -19,25 +19,21 @@ SameMarks marks marks′ (Rows k) = marks ≡ marks′
 SameMarks marks marks′ (Refused q) = Unit {0}
 
 module _ (t : Test) (n : ℕ) (before marks marks′ : List ℕ) where
-  one-whole : (s : Stop) (r r′ : Marked) → SaysWhole s t n before marks r → SaysWhole s t n before marks′ r′ → (r ≡ r′) × SameMarks marks marks′ r
-  one-whole s (Rows k) (Rows k′) h i = (ap Rows (h .1 ∙ sym (i .1)), h .2 ∙ sym (i .2))
-  one-whole s (Rows k) (Refused q) h i =
+  -- two answers to the same question, and the marks
+  one-says : (s : Stop) (r r′ : Marked) → Says s t n before marks r → Says s t n before marks′ r′ → (r ≡ r′) × SameMarks marks marks′ r
+  one-says s (Rows k) (Rows k′) h i = (ap Rows (h .1 ∙ sym (i .1)), h .2 ∙ sym (i .2))
+  one-says s (Rows k) (Refused q) h i =
       absurd (let z : _≡_ {A = Stop} never (stopOf q) = sym (h .0) ∙ i in let y : _≡_ {A = ℕ} 0 1 = cc in omega arith)
-  one-whole s (Refused q) (Rows k) h i =
+  one-says s (Refused q) (Rows k) h i =
       absurd (let z : _≡_ {A = Stop} (stopOf q) never = sym h ∙ i .0 in let y : _≡_ {A = ℕ} 0 1 = cc in omega arith)
-  one-whole s (Refused q) (Refused q′) h i = (ap Refused (one-refusal q q′ (sym h ∙ i)), tt)
-
-  -- rows alone are stopped by nothing before them
-  whole : (after : List ℕ) (r : Marked) → Says t n before after r → SaysWhole never t n before after r
-  whole after (Rows k) h = h
-  whole after (Refused q) h = h
+  one-says s (Refused q) (Refused q′) h i = (ap Refused (one-refusal q q′ (sym h ∙ i)), tt)
 
 -- mark_table
 module _ (b : List ℕ) (s : Stop) (t : Test) (n used : ℕ) (text after after′ before marks marks′ : List ℕ) (r r′ : Marked) where
   pub one-table : TableIs b s t n used text after before marks r → TableIs b s t n used text after′ before marks′ r′
       → (r ≡ r′) × SameMarks marks marks′ r × (take used after ≡ take used after′) × (length b ≡ 0 → after ≡ after′)
   one-table h k =
-      let e = one-whole t n before marks marks′ s r r′ (h .says) (k .says) in
+      let e = one-says t n before marks marks′ s r r′ (h .says) (k .says) in
       (e .0, e .1, h .kept ∙ sym (k .kept), λ o. h .alone o ∙ sym (k .alone o))
 
 -- the contract of mark_rows, over any rules
@@ -55,5 +51,5 @@ module _ (R : Rules) (used count n width : ℕ) (nodes rows text after after′ 
       let t : Test = testOf R b used (take used text) rows width in
       let i = h .rows-marked b asks in
       let j = k .rows-marked b asks in
-      let e = one-whole t n before marks marks′ never r r′ (whole t n before marks marks′ marks r (i .says)) (whole t n before marks marks′ marks′ r′ (j .says)) in
+      let e = one-says t n before marks marks′ never r r′ (i .says) (j .says) in
       (e .0, e .1, i .kept ∙ sym (j .kept), λ o. h .alone o ∙ sym (k .alone o))

@@ -18,8 +18,8 @@ use Rattle.writing.proofs.Answers.{refused-is}
 use Rattle.tables.specs.Table.{columnCount}
 use Rattle.testing.specs.Test.{conditionStop}
 use Rattle.marking.specs.RowList.{Test, isTrue, keptFrom, trueRows, otherRows, refusedFrom, wordsOf}
-use Rattle.marking.specs.Marks.{testOf, flagsFrom}
-use Rattle.marking.specs.Whole.{SaysWhole, TableIs}
+use Rattle.marking.specs.Marks.{testOf, flagsFrom, Says}
+use Rattle.marking.specs.Whole.{TableIs}
 use Rattle.marking.specs.declared.Marked.{Marked}
 use Rattle.marking.specs.declared.Marked.the-variants.{Rows}
 use Rattle.marking.proofs.Lists.{kept-same, mark-at, true-and-other}
@@ -143,7 +143,7 @@ module _ (q : Question) where
         → orElse (conditionFor q) (orElse (rowsFor q) later) ≡ stopOf r
     refused-rows r e later =
         two-stop (conditionFor q) (rowsFor q) later r
-        (subst (SaysWhole (conditionFor q) (testFor q) (countOf q) marks marks′) e (W .says))
+        (subst (Says (conditionFor q) (testFor q) (countOf q) marks marks′) e (W .says))
 
     pub select-refused : TableStop counts q ≡ never → listStop (widthOf q) 0 (q .list) ≡ never → (r : Refusal) → m ≡ Marked.Refused r → Selects q (q .out) (Refused r)
     select-refused T L r e = refused-is _ _ _ _ r (rw (T, L) (refused-rows r e _))
@@ -153,8 +153,8 @@ module _ (q : Question) where
 
     module _ (k : ℕ) (e : m ≡ Rows k) where
       -- what the marks and their count say
-      pub says : SaysWhole (conditionFor q) (testFor q) (countOf q) marks marks′ (Rows k)
-      says = subst (SaysWhole (conditionFor q) (testFor q) (countOf q) marks marks′) e (W .says)
+      pub says : Says (conditionFor q) (testFor q) (countOf q) marks marks′ (Rows k)
+      says = subst (Says (conditionFor q) (testFor q) (countOf q) marks marks′) e (W .says)
 
       -- neither the condition nor a row is refused
       pub passed-rows : (later : Stop) → orElse (conditionFor q) (orElse (rowsFor q) (orElse later never)) ≡ later

@@ -23,7 +23,7 @@ soFar c = c .loop .inv .marking _ (c .before .before .before .before .before .pr
 
 -- the row that is read ends within the rows
 ends : (c : tie.In-loop Inv-loop μ-loop) → c .before .loop .i * c .before .before .before .before .before .before .args .width + c .before .before .before .before .before .before .args .width ≤ length (now (c .before .before .before .before .before .before .args .rows))
-ends c = omega (arith, row-inside (c .before .before .before .before .before .before .args .n) (c .before .before .before .before .before .before .args .width) (c .before .loop .i) (c .loop-test .taken), c .before .before .before .before .before .before .pre .1 .whole)
+ends c = omega (arith, row-inside (c .before .before .before .before .before .before .args .n) (c .before .before .before .before .before .before .args .width) (c .before .loop .i) (c .loop-test .taken), c .before .before .before .before .before .before .pre .1 .table .whole)
 
 loop-holds : tie.Need-loop-holds Inv-loop μ-loop
 loop-holds c = loop-start _ _ _ _ _ _ _ _
@@ -65,19 +65,19 @@ returns : tie.Need-returns Inv-loop μ-loop
 returns c = (λ b A. loop-refused _ _ _ _ _ _ _ _ (c .before .before .before .before .before .before .before .before .loop .inv) (c .before .before .before .before .before .before .before .loop-test .taken) _ (c .before .before .before .before .mark-row .kept .1 .1 .1 .0) _ (c .before .before .before .before .mark-row .ensures) b A _ (c .enum-told .given .1), loop-alone _ _ _ _ _ _ _ _ (c .before .before .before .before .before .before .before .before .loop .inv) (c .before .before .before .before .before .before .before .loop-test .taken) _ (c .before .before .before .before .mark-row .kept .1 .1 .1 .0) _ (c .before .before .before .before .mark-row .ensures) _ (c .before .before .before .before .before .before .before .before .before .before .before .before .before .pre .1))
 
 mul-marks : tie.Need-mul-marks Inv-loop μ-loop
-mul-marks c = omega (arith, c .before .before .before .before .before .before .before .before .before .before .before .before .before .before .pre .1 .few)
+mul-marks c = omega (arith, c .before .before .before .before .before .before .before .before .before .before .before .before .before .before .pre .1 .table .few)
 
 slice-write-marks : tie.Need-slice-write-marks Inv-loop μ-loop
-slice-write-marks c = omega (arith, soFar (c .before .before .before .before .before .before .before .before .before) .long, c .before .before .before .before .before .before .before .before .before .before .before .before .before .before .pre .1 .space)
+slice-write-marks c = omega (arith, soFar (c .before .before .before .before .before .before .before .before .before) .long, c .before .before .before .before .before .before .before .before .before .before .before .before .before .before .pre .1 .table .space)
 
 loop-again : tie.Need-loop-again Inv-loop μ-loop
 loop-again c = loop-turn _ _ _ _ _ _ _ _ (c .before .before .before .before .before .before .before .before .before .loop .inv) (c .before .before .before .before .before .before .before .before .loop-test .taken) _ (c .before .before .before .before .before .mark-row .kept .1 .1 .1 .0) _ (c .before .before .before .before .before .mark-row .ensures) _ (c .before .before .before .before .before .before .before .before .before .before .before .before .before .before .pre .1) _ (c .before .one .given .1)
 
 add-k : tie.Need-add-k Inv-loop μ-loop
-add-k c = omega (arith, loop-again c .marking _ (c .before .before .before .before .before .before .before .before .before .before .before .before .before .before .pre .1) .few, c .before .before .before .before .before .before .before .before .before .before .before .before .before .before .pre .1 .few)
+add-k c = omega (arith, loop-again c .marking _ (c .before .before .before .before .before .before .before .before .before .before .before .before .before .before .pre .1) .few, c .before .before .before .before .before .before .before .before .before .before .before .before .before .before .pre .1 .table .few)
 
 add-i : tie.Need-add-i Inv-loop μ-loop
-add-i c = omega (arith, c .before .before .before .before .before .before .before .before .before .before .before .before .before .before .pre .1 .few)
+add-i c = omega (arith, c .before .before .before .before .before .before .before .before .before .before .before .before .before .before .pre .1 .table .few)
 
 loop-less : tie.Need-loop-less Inv-loop μ-loop
 loop-less c = omega arith
