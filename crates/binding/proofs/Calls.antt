@@ -6,14 +6,14 @@ use Prim.Native.Nat.{ℕ, suc, _+_, _≤_, _<_}
 use native.Mathlib.Omega.{arith}
 use native.Mathlib.Nat.{zero-add}
 use lib.ListN.{length, take, getD}
-use borrow.Author.Tests.{le-ltb}
 use Rattle.refusals.specs.Stop.{Stop, never, stop}
 use Rattle.slices.proofs.Splice.{front-splice}
 use Rattle.writing.specs.Writing.{WrittenIs}
 use Rattle.writing.specs.declared.Written.the-variants.{Count}
 use Rattle.cells.specs.Cell.{WellFormed}
 use Rattle.cells.proofs.Stops.{never-stops, stop-never}
-use Rattle.checks.specs.Check.{roomStop, cellsStop}
+use Rattle.checks.specs.Check.{cellsStop}
+use Rattle.checks.proofs.Turns.{room-never}
 use Rattle.columns.specs.Column.{names}
 use Rattle.operators.specs.declared.Rules.{Rules}
 use Rattle.conditions.specs.Ast.{Tree, mapTree, size, height, eval}
@@ -41,11 +41,6 @@ cells-never used p [] h = refl
 cells-never used p (w ∷ row) h =
     let q = never-stops used w 0 (h 0 (omega arith)) in
     rw (stop-never used w p (q .0) (q .1)) (cells-never used (suc p) row (λ i l. h (suc i) (omega arith)))
-
--- room that is there is not refused
-room-never : (needed size used : ℕ) → size ≤ 65536 → used + needed ≤ size → roomStop needed size used ≡ never
-unfolding roomStop
-room-never needed size used h k = rw (le-ltb 65536 size h, le-ltb size used (omega arith), le-ltb size (used + needed) k)
 
 -- a condition that `bind` accepts
 module _ (R : Rules) (b columns stored : List ℕ) (used : ℕ) (bytes : (i : ℕ) → getD b i 0 < 256) (t : Tree ℕ) (f : parsed Named used b ≡ tree t)

@@ -1,14 +1,12 @@
 -- Which check stops `bind`, what is known where none does, and what the walk's answer makes of the whole. Assumes nothing.
 use mathlib.Core.Path.{_≡_, refl, sym, ap, subst, _∙_}
-use mathlib.Core.Bool.{Bool, true, false, not}
 use mathlib.Core.List.{List, []}
 use Prim.Native.Nat.{ℕ, _+_, _-_, _≤_}
 use native.Mathlib.Omega.{arith}
 use lib.ListN.{length, take}
 use lib.Seq.{length-take-le}
-use borrow.Author.Tests.{ltb-false}
 use Rattle.refusals.specs.Told.{told}
-use Rattle.refusals.specs.Stop.{Stop, never, stop, stopIf, stopOf, orElse}
+use Rattle.refusals.specs.Stop.{Stop, never, stop, stopOf, orElse}
 use Rattle.refusals.specs.declared.Refusal.{Refusal}
 use Rattle.refusals.proofs.First.{never-both}
 use Rattle.writing.specs.Writing.{WrittenIs}
@@ -23,7 +21,7 @@ use Rattle.forms.specs.Held.{Denotes, ScanIs}
 use Rattle.forms.specs.declared.Scanned.{Scanned}
 use Rattle.forms.specs.declared.Scanned.the-variants.{Table, Denied}
 use Rattle.tables.specs.Table.{isTable, countStop}
-use Rattle.tables.proofs.Words.{table-counted}
+use Rattle.tables.proofs.Words.{table-counted, count-right}
 use Rattle.numbering.specs.Number.{namesStop}
 use Rattle.binding.specs.Bind.{ofTree, bindStop, boundBytes, BindIs}
 use Rattle.binding.specs.Asked.{beforeStop}
@@ -39,19 +37,10 @@ in-order never never (stop n p) d later = refl
 in-order never (stop n p) c d later = refl
 in-order (stop n p) b c d later = refl
 
--- a test that stops nothing is false
-not-stopped : (x : Bool) (n p : ℕ) → stopIf x n p ≡ never → x ≡ false
-not-stopped true n p e = absurd (let z : _≡_ {A = ℕ} 0 1 = cc in omega arith)
-not-stopped false n p e = refl
-
 -- a table that is not stopped has 2 to 64 words
-not-not : (x : Bool) → not x ≡ false → x ≡ true
-not-not true e = refl
-not-not false e = absurd (let z : _≡_ {A = ℕ} 0 1 = cc in omega arith)
-
 table-bounds : (columns : List ℕ) → countStop (isTable columns) ≡ never → (2 ≤ length columns) × (length columns ≤ 64)
 table-bounds columns e =
-    let t = table-counted columns (not-not (isTable columns) (not-stopped (not (isTable columns)) 8 0 e)) in
+    let t = table-counted columns (count-right (isTable columns) e) in
     (omega (arith, t .whole, t .some), omega (arith, t .whole, t .few))
 
 module _ (b columns stored : List ℕ) (size used output : ℕ) where
@@ -87,7 +76,7 @@ module _ (b columns stored : List ℕ) (size used output : ℕ) where
 
     -- the output has 448 bytes
     output-long : 448 ≤ output
-    output-long = ltb-false output 448 (not-stopped _ 10 0 (never-both (outputStop output) _ after-room .0))
+    output-long = Turns.output-there output (never-both (outputStop output) _ after-room .0)
 
     -- there are 1 to 32 columns
     pub columns-count : (2 ≤ length columns) × (length columns ≤ 64)

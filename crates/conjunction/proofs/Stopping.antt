@@ -1,20 +1,18 @@
 -- Which check stops `with`, and what is known where none of them does. Assumes nothing.
 use mathlib.Core.Path.{_≡_, refl, ap, subst}
-use mathlib.Core.Bool.{Bool, true, false}
 use mathlib.Core.List.{List, [], _∷_}
 use Prim.Native.Nat.{ℕ, _≤_}
 use native.Mathlib.Omega.{arith}
 use native.Mathlib.Nat.{zero-add}
 use lib.ListN.{length}
-use lib.Dec.{ltb}
-use borrow.Author.Tests.{ltb-false}
 use Rattle.refusals.specs.Told.{told}
-use Rattle.refusals.specs.Stop.{Stop, never, stop, stopIf, stopOf, checkedOf, countedFrom, orElse}
+use Rattle.refusals.specs.Stop.{Stop, never, stop, stopOf, checkedOf, countedFrom, orElse}
 use Rattle.refusals.specs.declared.Refusal.{Refusal}
 use Rattle.refusals.specs.declared.Checked.the-variants.{Refused}
 use Rattle.refusals.proofs.First.{never-both}
 use Rattle.refusals.proofs.Counting.{counted-never}
 use Rattle.checks.specs.Check.{roomStop, outputStop}
+use Rattle.checks.proofs.Turns.{output-there}
 use Rattle.nodes.specs.declared.Allowed.the-variants.{Mixed}
 use Rattle.forms.specs.Form.{Parsed, tree, refusal, parsed, formStop}
 use Rattle.forms.specs.Held.{ScanIs}
@@ -89,8 +87,4 @@ module _ (used : ℕ) where
     each-new = form-short new new-sound
 
     pub each-output : 448 ≤ output
-    each-output = by (ltb output 448) refl (never-both (outputStop output) _ after-room .0)
-      where
-        by : (x : Bool) → ltb output 448 ≡ x → stopIf x 10 0 ≡ never → 448 ≤ output
-        by true q h = absurd (let z : _≡_ {A = ℕ} 0 1 = cc in omega arith)
-        by false q h = ltb-false output 448 q
+    each-output = output-there output (never-both (outputStop output) _ after-room .0)

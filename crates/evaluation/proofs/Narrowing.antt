@@ -7,8 +7,8 @@ use native.Mathlib.Omega.{arith}
 use lib.ListN.{length, getD}
 use lib.Dec.{ltb, leb, eqb}
 use borrow.Author.Tests.{eq-eqb, ne-eqb, leb-false, ltb-true}
-use Rattle.refusals.specs.Stop.{Stop, never, stopIf, orElse}
-use Rattle.refusals.proofs.First.{never-both}
+use Rattle.refusals.specs.Stop.{never, stopIf, orElse}
+use Rattle.refusals.proofs.First.{never-both, not-stopped}
 use Rattle.refusals.proofs.Bools.{true-false}
 use Rattle.slices.specs.Bytes.{both}
 use Rattle.slices.proofs.Both.{both-true}
@@ -122,10 +122,6 @@ module _ (width used : ℕ) (b : List ℕ) (B : (i : ℕ) → getD b i 0 < 256) 
       let q : both true (leb width (getD b (at + 1) 0)) ≡ false = rw (eq-eqb (getD b at 0) 4 (e ∙ f)) at m in
       leb-false width (getD b (at + 1) 0) q
 
-  not-missing : (x : Bool) (at : ℕ) (later : Stop) → orElse (stopIf x 4 at) later ≡ never → x ≡ false
-  not-missing true at later h = absurd (let z : _≡_ {A = ℕ} 0 1 = cc in omega arith)
-  not-missing false at later h = refl
-
   pub parse-narrow : (f at : ℕ) (s : List (Tree ℕ)) (t : Tree ℕ) → AllNarrow width s → numbersStop width b f at ≡ never → parse Bound used b f at s ≡ tree t → Narrow width t
   unfolding parse numbersStop
   parse-narrow zero at s t h n e = by (ltb at (length b)) e
@@ -144,7 +140,7 @@ module _ (width used : ℕ) (b : List ℕ) (B : (i : ℕ) → getD b i 0 < 256) 
       by rest true n e = through (nodeAt Bound used b at (getD b at 0) s) refl e
         where
           m : isMissing width b at ≡ false
-          m = not-missing (isMissing width b at) at _ n
+          m = not-stopped (isMissing width b at) 4 at (never-both (stopIf (isMissing width b at) 4 at) _ n .0)
 
           later : numbersStop width b f (at + 1 + bodyOf (getD b at 0)) ≡ never
           later = never-both (stopIf (isMissing width b at) 4 at) _ n .1

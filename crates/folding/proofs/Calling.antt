@@ -1,23 +1,20 @@
 -- The call `fold`: which check stops it, that 32,768 bytes above the mark and 448 of output always suffice, and what its answer says. Assumes nothing.
 use mathlib.Core.Path.{_≡_, refl, sym, ap, ap₂, subst, _∙_}
-use mathlib.Core.Bool.{Bool, true, false}
 use mathlib.Core.List.{List}
 use Prim.Native.Nat.{ℕ, _+_, _-_, _≤_}
 use native.Mathlib.Omega.{arith}
 use native.Mathlib.Nat.{zero-add}
 use lib.ListN.{length, take}
 use lib.Seq.{length-take-le}
-use lib.Dec.{ltb}
-use borrow.Author.Tests.{ltb-false}
 use Rattle.refusals.specs.Told.{told}
-use Rattle.refusals.specs.Stop.{Stop, never, stopIf, stopOf, orElse}
+use Rattle.refusals.specs.Stop.{Stop, never, stopOf, orElse}
 use Rattle.refusals.specs.declared.Refusal.{Refusal}
 use Rattle.refusals.proofs.First.{never-both}
 use Rattle.slices.specs.Splice.{splice, Wrote}
 use Rattle.slices.proofs.Pieces.{take-own}
 use Rattle.writing.specs.Marked.{wrote}
 use Rattle.checks.specs.Check.{roomStop, outputStop}
-use Rattle.checks.proofs.Turns.{room-there}
+use Rattle.checks.proofs.Turns.{room-there, output-there}
 use Rattle.operators.specs.declared.Rules.{Rules}
 use Rattle.conditions.specs.Ast.{Tree, size}
 use Rattle.nodes.specs.declared.Allowed.the-variants.{Mixed}
@@ -62,11 +59,7 @@ module _ (b : List ℕ) (size used output : ℕ) where
     room-passed = never-both (roomStop 32768 size used) _ h .0
 
     pub output-passed : 448 ≤ output
-    output-passed = by (ltb output 448) refl (never-both (outputStop output) (orElse (formStop (parsed Mixed used b)) never) (never-both (roomStop 32768 size used) _ h .1) .0)
-      where
-        by : (x : Bool) → ltb output 448 ≡ x → stopIf x 10 0 ≡ never → 448 ≤ output
-        by true q h = absurd (let z : _≡_ {A = ℕ} 0 1 = cc in omega arith)
-        by false q h = ltb-false output 448 q
+    output-passed = output-there output (never-both (outputStop output) (orElse (formStop (parsed Mixed used b)) never) (never-both (roomStop 32768 size used) _ h .1) .0)
 
     pub there : (size ≤ 65536) × (used + 32768 ≤ size)
     there = room-there 32768 size used room-passed

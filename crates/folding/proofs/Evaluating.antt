@@ -1,13 +1,13 @@
 -- An evaluation of a readable tree's bytes, but for a refusal's place: the row's length, the columns and the tree's own outcome tell it, and they are
 -- the same after folding. Assumes nothing.
 use mathlib.Core.Path.{_≡_, refl, sym, ap, ap₂, _∙_}
-use mathlib.Core.Bool.{Bool, true, false, not}
+use mathlib.Core.Bool.{false, not}
 use mathlib.Core.List.{List, [], _∷_}
 use Prim.Native.Nat.{ℕ, suc, _≤_, _<_}
 use native.Mathlib.Omega.{arith}
 use lib.ListN.{length, getD}
 use Rattle.refusals.specs.Stop.{Stop, never, stop, stopIf, orElse, firstOf}
-use Rattle.refusals.proofs.First.{never-both}
+use Rattle.refusals.proofs.First.{never-both, not-stopped}
 use Rattle.slices.proofs.Extends.{Extends}
 use Rattle.cells.specs.Cell.{cellStop}
 use Rattle.cells.proofs.Stops.{stop-never, never-stops, well-formed, inside-more}
@@ -63,11 +63,7 @@ looked n columns = firstOf (stopIf (not (isRowLength n)) 8 0 ∷ stopIf (some na
 looked-never : (n : ℕ) (columns : List ℕ) → looked n columns ≡ never → some named columns ≡ false
 looked-never n columns h =
     let k = never-both (stopIf (not (isRowLength n)) 8 0) _ h .1 in
-    by (some named columns) (never-both (stopIf (some named columns) 1 0) _ k .0)
-  where
-    by : (x : Bool) → stopIf x 1 0 ≡ never → x ≡ false
-    by true e = absurd (let z : _≡_ {A = ℕ} 0 1 = cc in omega arith)
-    by false e = refl
+    not-stopped (some named columns) 1 0 (never-both (stopIf (some named columns) 1 0) _ k .0)
 
 -- an outcome has no place
 shown-outcome : (o : Outcome) → shown (atZero o) ≡ atZero o

@@ -1,20 +1,20 @@
 -- Which check stops the call, and what is known where none does. Assumes nothing.
-use mathlib.Core.Path.{_≡_, refl}
-use mathlib.Core.Bool.{Bool, true, false}
+use mathlib.Core.Path.{_≡_}
+use mathlib.Core.Bool.{true, false}
 use mathlib.Core.List.{List, [], _∷_}
 use Prim.Native.Nat.{ℕ, _+_, _≤_, _<_}
-use native.Mathlib.Omega.{arith}
 use lib.ListN.{length}
 use lib.Dec.{ltb, leb}
 use borrow.Author.Tests.{lt-ltb, le-ltb, le-leb, lt-leb, leb-true}
 use Rattle.refusals.specs.Stop.{Stop, never, stop, stopIf}
 use Rattle.refusals.proofs.First.{never-both}
 use Rattle.slices.specs.Bytes.{both}
+use Rattle.slices.proofs.Both.{both-true}
 use Rattle.columns.specs.Column.{columnsStop}
 use Rattle.checks.specs.Check.{roomStop, cellsStop}
 use Rattle.checks.proofs.Turns.{room-there}
 use Rattle.tables.specs.Table.{columnCount, isTable, areSides, countStop, cellWordsStop, wordsStop}
-use Rattle.tables.proofs.Words.{Counted, table-counted, words-sound}
+use Rattle.tables.proofs.Words.{Counted, table-counted, count-right, words-sound}
 use Rattle.heads.specs.Heads.{headStop}
 
 -- what is known where no check stops the call
@@ -26,13 +26,6 @@ pub record Passed (left right : List ℕ) (size used : ℕ) : Type 0 where
   pub few : columnCount left + columnCount right ≤ 32
   pub left-sound : columnsStop used 0 left ≡ never
   pub right-sound : columnsStop used (length left) right ≡ never
-
--- counts that are not refused are right
-counts-right : (a b c : Bool) → countStop (both (both a b) c) ≡ never → (a ≡ true) × (b ≡ true) × (c ≡ true)
-counts-right true true true e = (refl, refl, refl)
-counts-right true true false e = absurd (let z : _≡_ {A = ℕ} 0 1 = cc in omega arith)
-counts-right true false c e = absurd (let z : _≡_ {A = ℕ} 0 1 = cc in omega arith)
-counts-right false b c e = absurd (let z : _≡_ {A = ℕ} 0 1 = cc in omega arith)
 
 module _ (leftName left rightName right : List ℕ) (size used : ℕ) where
   -- the first stop
@@ -82,14 +75,15 @@ module _ (leftName left rightName right : List ℕ) (size used : ℕ) where
       let c = never-both (stopIf (ltb 255 (length leftName)) 3 0) _ (b .1) in
       let d = never-both (stopIf (ltb 255 (length rightName)) 3 0) _ (c .1) in
       let there = room-there 32768 size used (a .0) in
-      let counts = counts-right (isTable left) (isTable right) (leb (columnCount left + columnCount right) 32) (b .0) in
+      let counts = both-true (both (isTable left) (isTable right)) (leb (columnCount left + columnCount right) 32) (count-right _ (b .0)) in
+      let tables = both-true (isTable left) (isTable right) (counts .0) in
       let words = words-sound used left right [] [] (d .1) in
       record {
         small = there .0;
         room = there .1;
-        left-counted = table-counted left (counts .0);
-        right-counted = table-counted right (counts .1);
-        few = leb-true (columnCount left + columnCount right) 32 (counts .2);
+        left-counted = table-counted left (tables .0);
+        right-counted = table-counted right (tables .1);
+        few = leb-true (columnCount left + columnCount right) 32 (counts .1);
         left-sound = words .0;
         right-sound = words .1;
       }

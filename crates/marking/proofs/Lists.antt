@@ -9,7 +9,7 @@ use native.Mathlib.Nat.{eq-or-lt-of-le, add-zero, zero-add, zero-mul, suc-mul}
 use native.Mathlib.Numerals.{add-one}
 use lib.ListN.{length, take, drop, getD, length-append, List·getD-append}
 use lib.Seq.{take-length}
-use Rattle.testing.specs.Test.{refuses}
+use lib.Dec.{eqb}
 use Rattle.refusals.specs.Stop.{never, stop, orElse}
 use Rattle.refusals.proofs.First.{never-both}
 use Rattle.cells.specs.Cell.{cellStop}
@@ -17,6 +17,7 @@ use Rattle.cells.proofs.Stops.{never-stops, stop-never}
 use Rattle.checks.specs.Check.{cellsStop}
 use Rattle.slices.specs.Splice.{piece, splice}
 use Rattle.slices.proofs.Splice.{splice-start}
+use Rattle.testing.specs.Test.{refuses}
 use Rattle.marking.specs.RowList.{Test, isTrue, stopAt, keptFrom, trueRows, otherRows, refusedFrom, wordsOf}
 use Rattle.marking.specs.Marks.{flagsFrom}
 
@@ -142,10 +143,26 @@ flag-at t i (suc n) (suc j) h =
     flag-at t (suc i) n j (omega arith) ∙ ap (λ k. cond (isTrue (t k)) 1 0) e
 
 -- the mark of a row, where the marks were written over others
-pub mark-at : (t : Test) (n : ℕ) (before : List ℕ) (j : ℕ) → j < n → getD (splice before 0 (flagsFrom t 0 n)) j 0 ≡ cond (isTrue (t j)) 1 0
+mark-at : (t : Test) (n : ℕ) (before : List ℕ) (j : ℕ) → j < n → getD (splice before 0 (flagsFrom t 0 n)) j 0 ≡ cond (isTrue (t j)) 1 0
 mark-at t n before j h =
     rw (splice-start before (flagsFrom t 0 n), List·getD-append (flagsFrom t 0 n) (drop (length (flagsFrom t 0 n)) before) 0 j (rw (flags-length t 0 n) h))
     (flag-at t 0 n j h ∙ rw (zero-add j))
+
+-- a mark of 1 tells a true row
+pub mark-true : (t : Test) (n : ℕ) (before : List ℕ) (j : ℕ) → j < n → eqb (getD (splice before 0 (flagsFrom t 0 n)) j 0) 1 ≡ isTrue (t j)
+mark-true t n before j h = rw (mark-at t n before j h) (by (isTrue (t j)))
+  where
+    by : (x : Bool) → eqb (cond x 1 0) 1 ≡ x
+    by true = refl
+    by false = refl
+
+-- a mark of 0 tells any other
+pub mark-other : (t : Test) (n : ℕ) (before : List ℕ) (j : ℕ) → j < n → eqb (getD (splice before 0 (flagsFrom t 0 n)) j 0) 0 ≡ not (isTrue (t j))
+mark-other t n before j h = rw (mark-at t n before j h) (by (isTrue (t j)))
+  where
+    by : (x : Bool) → eqb (cond x 1 0) 0 ≡ not x
+    by true = refl
+    by false = refl
 
 -- ---- words
 

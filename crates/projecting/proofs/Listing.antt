@@ -1,6 +1,5 @@
 -- A list of columns: a turn and the end of its check, what an accepted one is, and a row's listed columns. Assumes nothing.
 use mathlib.Core.Path.{_≡_, refl, sym, ap, _∙_}
-use mathlib.Core.Bool.{Bool, true, false}
 use mathlib.Core.List.{List, [], _∷_, map}
 use Prim.Native.Nat.{ℕ, zero, suc, _+_, _≤_, _<_}
 use native.Mathlib.Omega.{arith}
@@ -10,7 +9,7 @@ use lib.Seq.{drop-cons}
 use lib.Dec.{leb}
 use borrow.Author.Tests.{le-leb, lt-leb, leb-false}
 use Rattle.refusals.specs.Stop.{never, stop, stopIf, orElse}
-use Rattle.refusals.proofs.First.{never-both}
+use Rattle.refusals.proofs.First.{never-both, not-stopped}
 use Rattle.slices.specs.Splice.{Wrote}
 use Rattle.slices.proofs.Splice.{Copying, copying-turn, copying-end}
 use Rattle.projecting.specs.Project.{projected, listStop}
@@ -45,11 +44,7 @@ empty-list width index = refl
 pub list-sound : (width p : ℕ) (list : List ℕ) → listStop width p list ≡ never → (i : ℕ) → i < length list → getD list i 0 < width
 unfolding listStop
 list-sound width p [] h i l = absurd (let z : ⊥ = omega arith in z)
-list-sound width p (c ∷ list) h zero l = by (leb width c) refl (never-both (stopIf (leb width c) 4 p) (listStop width (suc p) list) h .0)
-  where
-    by : (x : Bool) → leb width c ≡ x → stopIf x 4 p ≡ never → c < width
-    by true e q = absurd (let z : _≡_ {A = ℕ} 0 1 = cc in omega arith)
-    by false e q = leb-false width c e
+list-sound width p (c ∷ list) h zero l = leb-false width c (not-stopped _ 4 p (never-both (stopIf (leb width c) 4 p) (listStop width (suc p) list) h .0))
 list-sound width p (c ∷ list) h (suc i) l = list-sound width (suc p) list (never-both (stopIf (leb width c) 4 p) (listStop width (suc p) list) h .1) i (omega arith)
 
 -- ---- a row's listed columns

@@ -1,11 +1,11 @@
 -- The calls `select` and `delete` from their parts: what stops them in document 01's order, and the rows that the marks tell. Assumes nothing.
 use mathlib.Core.Path.{_≡_, refl, sym, ap, subst, _∙_}
-use mathlib.Core.Bool.{Bool, true, false, not, cond}
+use mathlib.Core.Bool.{Bool, true, not}
 use mathlib.Core.List.{List, []}
 use Prim.Native.Nat.{ℕ, _-_, _≤_}
 use native.Mathlib.Omega.{arith}
 use lib.ListN.{length, take}
-use lib.Dec.{leb, eqb}
+use lib.Dec.{leb}
 use borrow.Author.Tests.{leb-true}
 use Rattle.refusals.specs.Stop.{Stop, never, stop, stopOf, orElse}
 use Rattle.refusals.specs.declared.Refusal.{Refusal}
@@ -22,7 +22,7 @@ use Rattle.marking.specs.Marks.{testOf, flagsFrom, Says}
 use Rattle.marking.specs.Whole.{TableIs}
 use Rattle.marking.specs.declared.Marked.{Marked}
 use Rattle.marking.specs.declared.Marked.the-variants.{Rows}
-use Rattle.marking.proofs.Lists.{kept-same, mark-at, true-and-other}
+use Rattle.marking.proofs.Lists.{kept-same, mark-true, mark-other, true-and-other}
 use Rattle.projecting.specs.Project.{listStop, hasMark, markedWords}
 use Rattle.projecting.proofs.Listing.{empty-list}
 use Rattle.keeping.specs.Table.{rowCount, tableStop}
@@ -55,18 +55,10 @@ written-as before after a e f g h = rw (e, ← f, ← g) h
 module _ (t : Test) (n : ℕ) (before marks : List ℕ) (e : marks ≡ splice before 0 (flagsFrom t 0 n)) where
   -- marks of 1 are the true rows, marks of 0 the others
   pub marked-true : keptFrom (hasMark marks 1) 0 n ≡ trueRows t n
-  marked-true = rw e (kept-same _ (λ i. isTrue (t i)) 0 n (λ j l h. rw (mark-at t n before j (omega arith)) (by (isTrue (t j)))))
-    where
-      by : (x : Bool) → eqb (cond x 1 0) 1 ≡ x
-      by true = refl
-      by false = refl
+  marked-true = rw e (kept-same _ (λ i. isTrue (t i)) 0 n (λ j l h. mark-true t n before j (omega arith)))
 
   pub marked-other : keptFrom (hasMark marks 0) 0 n ≡ otherRows t n
-  marked-other = rw e (kept-same _ (λ i. not (isTrue (t i))) 0 n (λ j l h. rw (mark-at t n before j (omega arith)) (by (isTrue (t j)))))
-    where
-      by : (x : Bool) → eqb (cond x 1 0) 0 ≡ not x
-      by true = refl
-      by false = refl
+  marked-other = rw e (kept-same _ (λ i. not (isTrue (t i))) 0 n (λ j l h. mark-other t n before j (omega arith)))
 
 -- ---- the calls
 

@@ -13,7 +13,7 @@ use Rattle.refusals.specs.Stop.{never, stop, stopIf, checkedOf, orElse}
 use Rattle.refusals.specs.declared.Refusal.{Refusal}
 use Rattle.refusals.specs.declared.Checked.{Checked}
 use Rattle.refusals.specs.declared.Checked.the-variants.{Sound, Refused}
-use Rattle.refusals.proofs.First.{refused-first, told-sound, never-both, last-of-four}
+use Rattle.refusals.proofs.First.{refused-first, told-sound, never-both, not-stopped, last-of-four}
 use Rattle.cells.specs.Cell.{cellStop, refOf, Inside}
 use Rattle.cells.specs.declared.ValueRef.{ValueRef}
 use Rattle.cells.proofs.Stops.{well-formed, well-inside}
@@ -95,11 +95,7 @@ module _ (used : ℕ) (stored columns : List ℕ) where
       let b = never-both (cellStop used cell k) _ (a .1) in
       let d = never-both (stopIf (not (isValidValue (getD columns (2 * c + 1) 0) (valueOf stored cell))) 13 k) _ (b .1) in
       let f = never-both (setsStop used stored columns (suc k) sets) never (d .1) in
-      (by (leb (columnCount columns) c) refl (a .0), sets-within (suc k) sets (f .0))
-    where
-      by : (x : Bool) → leb (columnCount columns) c ≡ x → stopIf x 4 k ≡ never → c < columnCount columns
-      by true q z = absurd (let y : _≡_ {A = ℕ} 0 1 = cc in omega arith)
-      by false q z = leb-false (columnCount columns) c q
+      (leb-false (columnCount columns) c (not-stopped _ 4 k (a .0)), sets-within (suc k) sets (f .0))
 
 -- ---- the sets applied
 

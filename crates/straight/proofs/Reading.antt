@@ -8,14 +8,14 @@ use native.Mathlib.Numerals.{add-one}
 use lib.ListN.{length, getD, take, drop}
 use lib.Seq.{length-take-le}
 use lib.Dec.{leb}
-use borrow.Author.Tests.{le-ltb, eq-eqb, ne-eqb, lt-leb, leb-false}
+use borrow.Author.Tests.{eq-eqb, ne-eqb, lt-leb, leb-false}
 use Rattle.refusals.specs.Stop.{never}
 use Rattle.refusals.proofs.Bools.{true-false}
 use Rattle.slices.specs.Bytes.{both}
 use Rattle.cells.specs.Cell.{WellFormed, bodiesOf}
 use Rattle.cells.proofs.Stops.{stop-never, never-stops, cell-by, text-by}
 use Rattle.checks.specs.Check.{roomStop, cellsStop}
-use Rattle.checks.proofs.Turns.{cells-turn, cells-sound}
+use Rattle.checks.proofs.Turns.{cells-turn, cells-sound, room-never}
 use Rattle.conditions.specs.Table.{LeafSound, RowSound, LeafIs}
 use Rattle.conditions.proofs.Leaves.{leaf-column, leaf-literal}
 use Rattle.nodes.specs.Kind.{isKind, known, bodyOf, leafWord, textFits, two, four}
@@ -45,8 +45,7 @@ row-sound row text used h c = record { cells = rw (length-take-le used text h) (
 
 -- the text, its mark and the room above it
 pub room-passed : (size used : ℕ) → size ≤ 65536 → used ≤ size → 32768 ≤ size - used → roomStop 32768 size used ≡ never
-unfolding roomStop
-room-passed size used h k l = rw (le-ltb 65536 size h, le-ltb size used k, le-ltb size (used + 32768) (omega arith))
+room-passed size used h k l = room-never 32768 size used h (omega arith)
 
 -- a word that is no column's and no name's
 literal-sound : (used width w : ℕ) → (w / 2 ^ 56 ≡ 4 → ⊥) → (w / 2 ^ 56 ≡ 3 → ⊥) → LeafHeld used w → LeafSound used width w

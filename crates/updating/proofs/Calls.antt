@@ -1,6 +1,6 @@
 -- The call `update` from its parts: what stops it in document 01's order, and the rows that the marks tell. Assumes nothing.
 use mathlib.Core.Path.{_≡_, refl, ap}
-use mathlib.Core.Bool.{Bool, true, false, cond}
+use mathlib.Core.Bool.{cond}
 use mathlib.Core.List.{List}
 use Prim.Native.Nat.{ℕ, _<_}
 use native.Mathlib.Omega.{arith}
@@ -20,7 +20,7 @@ use Rattle.marking.specs.RowList.{isTrue}
 use Rattle.marking.specs.Marks.{part}
 use Rattle.marking.specs.declared.Marked.{Marked}
 use Rattle.marking.specs.declared.Marked.the-variants.{Rows}
-use Rattle.marking.proofs.Lists.{mark-at}
+use Rattle.marking.proofs.Lists.{mark-true}
 use Rattle.checks.specs.Check.{shortStop}
 use Rattle.operators.specs.Operator.{base}
 use Rattle.selecting.proofs.Calls.{Question, widthOf, countOf, testFor, TableStop, PassedBy, MarkedBy, written-as, refused-rows, says, passed-rows}
@@ -63,11 +63,7 @@ module _ (q : Question) where
       module _ (k : ℕ) (e : m ≡ Rows k) where
         -- a mark of 1 is a true row
         marked : (j : ℕ) → j < countOf q → eqb (getD marks′ j 0) 1 ≡ isTrue (testFor q j)
-        marked j h = rw (says q text′ marks marks′ m W k e .2, mark-at (testFor q) (countOf q) marks j h) (by (isTrue (testFor q j)))
-          where
-            by : (x : Bool) → eqb (cond x 1 0) 1 ≡ x
-            by true = refl
-            by false = refl
+        marked j h = rw (says q text′ marks marks′ m W k e .2) (mark-true (testFor q) (countOf q) marks j h)
 
         -- what is answered once all rows are written
         pub update-written : (after : List ℕ) (a : Written)
