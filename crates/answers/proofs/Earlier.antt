@@ -3,13 +3,13 @@ use mathlib.Core.Path.{_≡_, refl, sym, ap, _∙_}
 use mathlib.Core.List.{List}
 use Prim.Native.Nat.{ℕ}
 use lib.ListN.{length, take}
-use Rattle.refusals.specs.Stop.{Stop, never, stop, stopOf}
+use Rattle.refusals.specs.Stop.{Stop, never, stop, stopOf, unlessStopped}
 use Rattle.refusals.specs.declared.Refusal.{Refusal}
 use Rattle.slices.specs.declared.Ordering.{Ordering}
 use Rattle.slices.specs.declared.Ordering.the-variants.{Less, Equal, Greater}
 use Rattle.keys.specs.Key as key
 use Rattle.keys.specs.Key.{keyOrder, pick, rowsStop, earlierOf}
-use Rattle.answers.specs.Earlier.{whichOf, unlessStopped, whichEarlier, handed}
+use Rattle.answers.specs.Earlier.{whichOf, whichEarlier, handed}
 
 module _ (columns text : List ℕ) (used : ℕ) (first second : List ℕ) where
   pub none-earlier : (r : Refusal) → rowsStop columns (length text) used first second ≡ stopOf r → 0 ≡ whichEarlier columns text used first second
@@ -21,7 +21,7 @@ module _ (columns text : List ℕ) (used : ℕ) (first second : List ℕ) where
   unfolding whichEarlier
   one-earlier e = rw e
 
-  handed-one : (s : Stop) (o : Ordering) → key.unlessStopped s (pick o first second) ≡ handed (unlessStopped s (whichOf o)) first second
+  handed-one : (s : Stop) (o : Ordering) → unlessStopped (λ number place. []) s (pick o first second) ≡ handed (unlessStopped (λ number place. 0) s (whichOf o)) first second
   handed-one never Less = refl
   handed-one never Equal = refl
   handed-one never Greater = refl

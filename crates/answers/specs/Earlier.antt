@@ -2,7 +2,7 @@
 use Prim.Native.Nat.{ℕ, zero, suc}
 use mathlib.Core.List.{List, []}
 use lib.ListN.{length, take}
-use Rattle.refusals.specs.Stop.{Stop, never, stop}
+use Rattle.refusals.specs.Stop.{unlessStopped}
 use Rattle.slices.specs.declared.Ordering.{Ordering}
 use Rattle.slices.specs.declared.Ordering.the-variants.{Less, Equal, Greater}
 use Rattle.keys.specs.Key.{keyOrder, rowsStop}
@@ -13,15 +13,10 @@ whichOf Less = 1
 whichOf Equal = 1
 whichOf Greater = 2
 
--- 0 where a refusal would be given
-abbrev pub unlessStopped : Stop → ℕ → ℕ
-unlessStopped never which = which
-unlessStopped (stop number place) which = 0
-
 -- the number of the row that `earlier` hands back
 unfoldable pub whichEarlier : List ℕ → List ℕ → ℕ → List ℕ → List ℕ → ℕ
 whichEarlier columns text used first second =
-    unlessStopped (rowsStop columns (length text) used first second) (whichOf (keyOrder columns (take used text) first second))
+    unlessStopped (λ number place. 0) (rowsStop columns (length text) used first second) (whichOf (keyOrder columns (take used text) first second))
 
 -- the row of such a number
 abbrev pub handed : ℕ → List ℕ → List ℕ → List ℕ

@@ -16,14 +16,14 @@ use Rattle.checks.specs.Check.{roomStop, outputStop}
 use Rattle.checks.proofs.Turns
 use Rattle.conditions.specs.Ast.{Tree}
 use Rattle.nodes.specs.declared.Allowed.the-variants.{Named}
-use Rattle.forms.specs.Form.{tree, refusal, parsed, formStop}
+use Rattle.forms.specs.Form.{tree, refusal, parsed, formStop, ofTree}
 use Rattle.forms.specs.Held.{Denotes, ScanIs}
 use Rattle.forms.specs.declared.Scanned.{Scanned}
 use Rattle.forms.specs.declared.Scanned.the-variants.{Table, Denied}
 use Rattle.tables.specs.Table.{isTable, countStop}
 use Rattle.tables.proofs.Words.{table-counted, count-right}
 use Rattle.numbering.specs.Number.{namesStop}
-use Rattle.binding.specs.Bind.{ofTree, bindStop, boundBytes, BindIs}
+use Rattle.binding.specs.Bind.{bindStop, boundBytes, BindIs}
 use Rattle.binding.specs.Asked.{beforeStop}
 use Rattle.numbering.specs.Walk.{BindAsks, Binds}
 use Rattle.numbering.specs.declared.Part.{Part}
@@ -50,7 +50,7 @@ module _ (b columns stored : List ℕ) (size used output : ℕ) where
 
   -- what is looked at after the columns
   abbrev later : Stop
-  later = orElse (formStop (parsed Named used b)) (orElse (ofTree (namesStop stored columns 0) (parsed Named used b)) never)
+  later = orElse (formStop (parsed Named used b)) (orElse (ofTree (namesStop stored columns 0) (λ number place. never) (parsed Named used b)) never)
 
   -- what stops it before the condition, then the rest
   in-groups : whole ≡ orElse (beforeStop columns size used output) later

@@ -11,15 +11,10 @@ use Rattle.columns.specs.Column.{columnsStop, Where, nowhere, found, firstFrom}
 use Rattle.checks.specs.Check.{roomStop, outputStop}
 use Rattle.tables.specs.Table.{isTable, countStop}
 use Rattle.nodes.specs.declared.Allowed.the-variants.{Named}
-use Rattle.conditions.specs.Ast.{Tree, Atom, literal, column, named, mapTree}
-use Rattle.forms.specs.Form.{Parsed, tree, refusal, parsed, formStop}
+use Rattle.conditions.specs.Ast.{Atom, literal, column, named, mapTree}
+use Rattle.forms.specs.Form.{Parsed, tree, refusal, parsed, formStop, ofTree}
 use Rattle.postfix.specs.Postfix.{bytesOf}
 use Rattle.numbering.specs.Number.{bindLeaf, namesStop}
-
--- of a condition that is one: what stops its tree
-abbrev pub ofTree : (Tree ℕ → Stop) → Parsed → Stop
-ofTree f (tree t) = f t
-ofTree f (refusal number place) = never
 
 -- all that stops `bind`, in document 01's order
 abbrev pub bindStop : List ℕ → List ℕ → List ℕ → ℕ → ℕ → ℕ → Stop
@@ -30,7 +25,7 @@ bindStop b columns stored size used output =
     ∷ countStop (isTable columns)
     ∷ columnsStop used 0 columns
     ∷ formStop (parsed Named used b)
-    ∷ ofTree (namesStop stored columns 0) (parsed Named used b)
+    ∷ ofTree (namesStop stored columns 0) (λ number place. never) (parsed Named used b)
     ∷ [])
 
 -- the bound condition's bytes

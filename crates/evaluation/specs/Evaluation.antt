@@ -6,7 +6,7 @@ use mathlib.Core.List.{List, [], _∷_}
 use lib.ListN.{length, take, getD}
 use lib.Dec.{leb}
 use Rattle.refusals.specs.Told.{told}
-use Rattle.refusals.specs.Stop.{Stop, never, stop, stopIf, firstOf, stopOf}
+use Rattle.refusals.specs.Stop.{Stop, never, stopIf, firstOf, stopOf, unlessStopped}
 use Rattle.slices.specs.Bytes.{both}
 use Rattle.cells.specs.Cell.{WellFormed, kindOf, startOf}
 use Rattle.values.specs.Value.{Value, valueOf}
@@ -17,7 +17,7 @@ use Rattle.conditions.specs.Ast.{Tree, mapTree, eval, size}
 use Rattle.conditions.specs.Table.{leafOf, rowOf, leafCell}
 use Rattle.nodes.specs.Kind.{leafWord}
 use Rattle.nodes.specs.declared.Allowed.the-variants.{Bound}
-use Rattle.forms.specs.Form.{Parsed, tree, refusal, parsed, formStop}
+use Rattle.forms.specs.Form.{tree, parsed, formStop, ofTree}
 use Rattle.forms.specs.Number.{numbersStop}
 use Rattle.forms.specs.Held.{ScanIs}
 use Rattle.forms.specs.declared.Scanned.{Scanned}
@@ -50,20 +50,10 @@ abbrev pub atZero : Outcome → Result
 atZero (value v) = gave v
 atZero (Outcome.refused number) = Result.refused number 0
 
--- of a condition that is one: what its tree comes to; of any other its refusal
-abbrev pub ofTree : (Tree ℕ → Outcome) → Parsed → Result
-ofTree f (tree t) = atZero (f t)
-ofTree f (refusal number place) = Result.refused number place
-
--- a stop comes first
-abbrev pub unlessStopped : Stop → Result → Result
-unlessStopped never r = r
-unlessStopped (stop number place) r = Result.refused number place
-
 -- a condition's bytes on a row, both read in the stored text
 unfoldable pub evaluation : Rules → List ℕ → List ℕ → List ℕ → ℕ → ℕ → Result
 evaluation R b row stored size used =
-    unlessStopped (stops b row size used) (ofTree (λ t. eval R (rowOf stored row) (mapTree (leafOf stored) t)) (parsed Bound used b))
+    unlessStopped Result.refused (stops b row size used) (ofTree (λ t. atZero (eval R (rowOf stored row) (mapTree (leafOf stored) t))) Result.refused (parsed Bound used b))
 
 -- where a returned cell lies: of a condition of one leaf it is the leaf's own word; a text of any other was computed, and lies above the mark
 pub record LiesIn (b row : List ℕ) (used nodes w : ℕ) : Type 0 where

@@ -6,7 +6,7 @@ use mathlib.Core.List.{List, [], _∷_}
 use Prim.Native.Nat.{ℕ, suc, _≤_, _<_}
 use native.Mathlib.Omega.{arith}
 use lib.ListN.{length, getD}
-use Rattle.refusals.specs.Stop.{Stop, never, stop, stopIf, orElse, firstOf}
+use Rattle.refusals.specs.Stop.{Stop, never, stop, stopIf, orElse, firstOf, unlessStopped}
 use Rattle.refusals.proofs.First.{never-both, not-stopped}
 use Rattle.slices.proofs.Extends.{Extends}
 use Rattle.cells.specs.Cell.{cellStop}
@@ -17,9 +17,9 @@ use Rattle.operators.specs.declared.Rules.{Rules}
 use Rattle.conditions.specs.Ast.{Tree, size, height, mapTree, eval}
 use Rattle.conditions.specs.Table.{leafOf, rowOf}
 use Rattle.nodes.specs.declared.Allowed.the-variants.{Bound, Mixed}
-use Rattle.forms.specs.Form.{parsed, formStop}
+use Rattle.forms.specs.Form.{parsed, formStop, ofTree}
 use Rattle.forms.specs.Number.{numbersStop}
-use Rattle.evaluation.specs.Evaluation.{isRowLength, stops, Result, gave, atZero, ofTree, unlessStopped, evaluation}
+use Rattle.evaluation.specs.Evaluation.{isRowLength, stops, Result, gave, atZero, evaluation}
 use Rattle.postfix.specs.Postfix.{bytesOf}
 use Rattle.postfix.proofs.Reading.{Readable}
 use Rattle.replacing.specs.Walk.{AllHeld}
@@ -82,7 +82,7 @@ module _ (R : Rules) (used : ℕ) (t : Tree ℕ) (r : Readable Mixed used t) (fe
       ∙ ap₂ orElse (bound-told used t r few low) (placeless-else numbers never ∙ ap (λ s. orElse s never) (numbers-told Mixed used (length row) t r few))))
 
   -- what it comes to: the row's length, the columns and the tree's own outcome tell it
-  evaluation-told : shown (evaluation R (bytesOf t) row stored room used) ≡ unlessStopped (looked (length row) (columnsOf t)) (atZero (eval R (rowOf stored row) (mapTree (leafOf stored) t)))
+  evaluation-told : shown (evaluation R (bytesOf t) row stored room used) ≡ unlessStopped Result.refused (looked (length row) (columnsOf t)) (atZero (eval R (rowOf stored row) (mapTree (leafOf stored) t)))
   unfolding evaluation
   evaluation-told = by (stops (bytesOf t) row room used) refl
     where
@@ -90,7 +90,7 @@ module _ (R : Rules) (used : ℕ) (t : Tree ℕ) (r : Readable Mixed used t) (fe
       outcome x = eval R (rowOf stored row) (mapTree (leafOf stored) x)
 
       by : (s : Stop) → stops (bytesOf t) row room used ≡ s
-          → shown (unlessStopped s (ofTree outcome (parsed Bound used (bytesOf t)))) ≡ unlessStopped (looked (length row) (columnsOf t)) (atZero (outcome t))
+          → shown (unlessStopped Result.refused s (ofTree (λ x. atZero (outcome x)) Result.refused (parsed Bound used (bytesOf t)))) ≡ unlessStopped Result.refused (looked (length row) (columnsOf t)) (atZero (outcome t))
       by never e =
           let l : looked (length row) (columnsOf t) ≡ never = sym stops-told ∙ ap placeless e in
           rw (l, bound-tree used t r few low (looked-never (length row) (columnsOf t) l)) (shown-outcome (outcome t))
@@ -124,5 +124,5 @@ module _ {R : Rules} {b stored : List ℕ} {room used output : ℕ} {t′ : Tree
         let c = cells-higher used (length s′) 0 row (omega (arith, whole, more .longer)) cells in
         ap (λ l. shown (evaluation R l row stored room₁ used)) (sym (w .1))
         ∙ evaluation-told R used (A .was) (w .0) (w .2) (w .3) row stored room₁ h cells
-        ∙ ap₂ (λ c o. unlessStopped (looked (length row) c) (atZero o)) (sym (fold-columns R short 0 (A .was) t′ stored s′ (A .folds) (joins-room short bytes whole A))) eval-alike
+        ∙ ap₂ (λ c o. unlessStopped Result.refused (looked (length row) c) (atZero o)) (sym (fold-columns R short 0 (A .was) t′ stored s′ (A .folds) (joins-room short bytes whole A))) eval-alike
         ∙ sym (evaluation-told R (length s′) t′ (n .0) (n .1) (n .2) row s′ room₂ k c)

@@ -6,7 +6,7 @@ use Prim.Native.Nat.{ℕ, _+_, _*_, _≤_, _<_}
 use native.Mathlib.Omega.{arith}
 use lib.ListN.{length, getD, length-append}
 use mir.Facts.{fits-ofZ}
-use Rattle.refusals.specs.Stop.{Stop, never, stop}
+use Rattle.refusals.specs.Stop.{Stop, never, stop, unlessStopped}
 use Rattle.cells.specs.Cell.{wordOf}
 use Rattle.values.specs.Value.{Value, null, int, str, binary}
 use Rattle.integers.specs.Outcome.{cellAt}
@@ -15,14 +15,14 @@ use Rattle.conditions.specs.Ast.{Tree, leaf, unary, size as count, height, join
 use Rattle.nodes.specs.Kind.{known, isKind, bodyOf}
 use Rattle.nodes.specs.declared.Allowed.{Allowed}
 use Rattle.nodes.specs.declared.Allowed.the-variants.{Named, Bound, Mixed}
-use Rattle.forms.specs.Form.{Parsed, tree, refusal, parsed}
+use Rattle.forms.specs.Form.{Parsed, tree, refusal, parsed, ofTree}
 use Rattle.evaluation.proofs.Whole.{joins-size}
 use Rattle.postfix.specs.Postfix.{bytesOf}
 use Rattle.postfix.proofs.Readable.{leaf-readable}
 use Rattle.postfix.proofs.Reading.{LeafReadable, Readable, parsed-readable, readable-parsed}
 use Rattle.replacing.specs.Fold.{folded, appended, fold}
 use Rattle.replacing.specs.Walk.{Literal}
-use Rattle.folding.specs.Call.{foldStop, folding, ofTree, unlessStopped}
+use Rattle.folding.specs.Call.{foldStop, folding}
 use Rattle.shortening.proofs.Ways.{literalAt, Folds, same, kept-one, kept-two, value-one, value-two, fold-folds}
 use Rattle.replacing.proofs.Literals.{literal-one, literal-two}
 use Rattle.shortening.proofs.Growing.{folds-grown, grown}
@@ -101,7 +101,7 @@ unfolding folding
 accepted R b stored size used output t′ s′ e = by (foldStop b size used output) refl (parsed Mixed used b) refl e
   where
     by : (s : Stop) → foldStop b size used output ≡ s → (p : Parsed) → parsed Mixed used b ≡ p
-        → unlessStopped s (ofTree (λ t. fold R 0 t stored) p) ≡ folded t′ s′ → Accepted R b stored size used output t′ s′
+        → unlessStopped Folding.refused s (ofTree (λ t. fold R 0 t stored) Folding.refused p) ≡ folded t′ s′ → Accepted R b stored size used output t′ s′
     by never h (tree t) k e = record { was = t; parses = k; passed = h; folds = e }
     by never h (refusal n p) k e = absurd (let z : _≡_ {A = ℕ} 0 1 = cc in omega arith)
     by (stop n p) h q k e = absurd (let z : _≡_ {A = ℕ} 0 1 = cc in omega arith)

@@ -4,14 +4,14 @@ use mathlib.Core.Path.{_≡_}
 use mathlib.Core.List.{List, [], _∷_}
 use lib.ListN.{length, take}
 use Rattle.refusals.specs.Told.{told}
-use Rattle.refusals.specs.Stop.{Stop, never, stop, stopOf, firstOf}
+use Rattle.refusals.specs.Stop.{Stop, never, stopOf, firstOf, unlessStopped}
 use Rattle.slices.specs.Splice.{splice}
 use Rattle.writing.specs.Marked.{Report, wrote}
 use Rattle.checks.specs.Check.{roomStop, outputStop}
 use Rattle.operators.specs.declared.Rules.{Rules}
 use Rattle.conditions.specs.Ast.{Tree}
 use Rattle.nodes.specs.declared.Allowed.the-variants.{Mixed}
-use Rattle.forms.specs.Form.{Parsed, tree, refusal, parsed, formStop}
+use Rattle.forms.specs.Form.{parsed, formStop, ofTree}
 use Rattle.forms.specs.Held.{ScanIs}
 use Rattle.forms.specs.declared.Scanned.{Scanned}
 use Rattle.forms.specs.declared.Scanned.the-variants.{Table, Denied}
@@ -24,17 +24,10 @@ use Rattle.folding.specs.declared.Shortened.the-variants.{Bytes, Refused
 abbrev pub foldStop : List ℕ → ℕ → ℕ → ℕ → Stop
 foldStop b size used output = firstOf (roomStop 32768 size used ∷ outputStop output ∷ formStop (parsed Mixed used b) ∷ [])
 
-abbrev pub ofTree : (Tree ℕ → Folding) → Parsed → Folding
-ofTree f (tree t) = f t
-ofTree f (refusal number place) = Folding.refused number place
-
-abbrev pub unlessStopped : Stop → Folding → Folding
-unlessStopped never f = f
-unlessStopped (stop number place) f = Folding.refused number place
-
 -- a condition's bytes folded, its texts read in the stored text
 unfoldable pub folding : Rules → List ℕ → List ℕ → ℕ → ℕ → ℕ → Folding
-folding R b stored size used output = unlessStopped (foldStop b size used output) (ofTree (λ t. fold R 0 t stored) (parsed Mixed used b))
+folding R b stored size used output =
+    unlessStopped Folding.refused (foldStop b size used output) (ofTree (λ t. fold R 0 t stored) Folding.refused (parsed Mixed used b))
 
 -- what an answer tells: bytes written and the new mark, or a refusal's number and place
 abbrev pub reportOf : Shortened → Report

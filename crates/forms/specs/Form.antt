@@ -14,6 +14,11 @@ pub data Parsed : Type 0 where
   tree : Tree ℕ → Parsed
   refusal : ℕ → ℕ → Parsed
 
+-- what is made of the tree, or of the refusal
+abbrev pub ofTree : {A : Type 0} → (Tree ℕ → A) → (ℕ → ℕ → A) → Parsed → A
+ofTree f refused (tree t) = f t
+ofTree f refused (refusal number place) = refused number place
+
 -- one node: the stack and the offset after it, or a refusal's number
 pub data Move : Type 0 where
   go : List (Tree ℕ) → ℕ → Move

@@ -10,7 +10,7 @@ use lib.ListN.{length, take, length-append}
 use lib.Seq.{length-take-le}
 use lib.Dec.{eqb, ltb, leb}
 use borrow.Author.Tests.{eq-eqb, lt-ltb, le-leb, ltb-true, eqb-false, leb-true, not-false}
-use Rattle.refusals.specs.Stop.{Stop, never, stop, stopIf}
+use Rattle.refusals.specs.Stop.{Stop, never, stop, stopIf, unlessStopped}
 use Rattle.refusals.proofs.First.{never-both, not-stopped}
 use Rattle.slices.specs.Splice.{piece}
 use Rattle.slices.proofs.Extends.{Extends, extends-own, extends-more, extends-then}
@@ -24,7 +24,7 @@ use Rattle.columns.specs.Column.{nameStop, columnStop, columnsStop}
 use Rattle.columns.proofs.Stops.{name-never}
 use Rattle.tables.specs.Table.{columnCount, isTable}
 use Rattle.naming.specs.OneSide.{Head, joined, Named, named, tooLong, prefixed, appended, nameOf, ruleOf, behind, ofName, sideOf}
-use Rattle.heads.specs.Heads.{headOf, headStop, head, ifRoom, unlessStopped}
+use Rattle.heads.specs.Heads.{headOf, headStop, head, ifRoom}
 use Rattle.heads.proofs.Rising.{name-rises, columns-rise}
 use Rattle.heads.proofs.Stopping.{Passed, passed}
 
@@ -161,7 +161,7 @@ module _ (nullable : Bool) (leftName left rightName right text : List ℕ) (used
       (λ s l m. side-good rightName nullable (columnCount left) right (λ s′. joined [] s′) s used (length left) 0 (p .right-sound) (omega arith) (omega arith) (λ t x y. none-good t))
 
 -- where the whole is joined, nothing stops it
-unstopped : (s : Stop) (h : Head) (words t : List ℕ) → unlessStopped s h ≡ joined words t → (s ≡ never) × (h ≡ joined words t)
+unstopped : (s : Stop) (h : Head) (words t : List ℕ) → unlessStopped Head.refused s h ≡ joined words t → (s ≡ never) × (h ≡ joined words t)
 unstopped never h words t e = (refl, e)
 unstopped (stop number place) h words t e = absurd (let z : _≡_ {A = ℕ} 0 1 = cc in omega arith)
 

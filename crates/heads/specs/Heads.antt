@@ -7,7 +7,7 @@ use mathlib.Core.List.{List, [], _∷_}
 use lib.ListN.{length, take}
 use lib.Dec.{ltb}
 use Rattle.refusals.specs.Told.{told}
-use Rattle.refusals.specs.Stop.{Stop, never, stop, stopIf, firstOf}
+use Rattle.refusals.specs.Stop.{Stop, stopIf, firstOf, unlessStopped}
 use Rattle.slices.specs.Splice.{splice}
 use Rattle.writing.specs.Marked.{Report, wrote}
 use Rattle.checks.specs.Check.{roomStop}
@@ -37,20 +37,17 @@ abbrev pub ifRoom : ℕ → Head → Head
 ifRoom output (joined words stored) = cond (ltb output (length words)) (Head.refused 9 (length words)) (joined words stored)
 ifRoom output (Head.refused number place) = Head.refused number place
 
-abbrev pub unlessStopped : Stop → Head → Head
-unlessStopped never h = h
-unlessStopped (stop number place) h = Head.refused number place
-
 -- what joining two column tables comes to; the right ones become nullable in a left join
 unfoldable pub head : Bool → List ℕ → List ℕ → List ℕ → List ℕ → List ℕ → ℕ → ℕ → ℕ → Head
 head nullable leftName left rightName right stored size used output =
-    unlessStopped (headStop leftName left rightName right size used) (ifRoom output (headOf nullable leftName left rightName right stored))
+    unlessStopped Head.refused (headStop leftName left rightName right size used) (ifRoom output (headOf nullable leftName left rightName right stored))
 
 -- what an answer tells: words written and the new mark, or a refusal's number and place
 abbrev pub reportOf : Joined → Report
 reportOf (Words count mark) = wrote count mark
 reportOf (Refused r) = Report.refused (told r .number) (told r .place)
 
+-- what is to be told of joined columns: how many words, and the mark after the appended names
 abbrev pub report : Head → Report
 report (joined words stored) = wrote (length words) (length stored)
 report (Head.refused number place) = Report.refused number place

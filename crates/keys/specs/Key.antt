@@ -5,7 +5,7 @@ use mathlib.Core.Bool.{Bool, cond}
 use mathlib.Core.List.{List, [], _∷_}
 use lib.ListN.{length, take}
 use lib.Dec.{eqb}
-use Rattle.refusals.specs.Stop.{Stop, never, stop, firstOf}
+use Rattle.refusals.specs.Stop.{Stop, firstOf, unlessStopped}
 use Rattle.slices.specs.Bytes.{both}
 use Rattle.slices.specs.declared.Ordering.{Ordering}
 use Rattle.slices.specs.declared.Ordering.the-variants.{Less, Equal, Greater}
@@ -54,12 +54,7 @@ rowsStop columns size used first second =
     ∷ wordsStop used (columns ∷ [] ∷ []) (first ∷ second ∷ [])
     ∷ [])
 
--- the empty part where something stops it
-abbrev pub unlessStopped : Stop → List ℕ → List ℕ
-unlessStopped never row = row
-unlessStopped (stop number place) row = []
-
 -- `earlier`: one of the two rows as lent, the first if equal, the empty part where a refusal would be given
 unfoldable pub earlierOf : List ℕ → List ℕ → ℕ → List ℕ → List ℕ → List ℕ
 earlierOf columns text used first second =
-    unlessStopped (rowsStop columns (length text) used first second) (pick (keyOrder columns (take used text) first second) first second)
+    unlessStopped (λ number place. []) (rowsStop columns (length text) used first second) (pick (keyOrder columns (take used text) first second) first second)

@@ -36,6 +36,11 @@ abbrev pub firstOf : List Stop → Stop
 firstOf [] = never
 firstOf (s ∷ ss) = orElse s (firstOf ss)
 
+-- what a call comes to where nothing stops it, and otherwise by the stop's number and place
+abbrev pub unlessStopped : {A : Type 0} → (ℕ → ℕ → A) → Stop → A → A
+unlessStopped refused never a = a
+unlessStopped refused (stop number place) a = refused number place
+
 -- a stop in a part that begins at an offset: its place counts on from there
 abbrev pub countedFrom : ℕ → Stop → Stop
 countedFrom from never = never

@@ -5,6 +5,7 @@ use mathlib.Core.Path.{_≡_, refl, sym, subst, _∙_}
 use mathlib.Core.Bool.{Bool}
 use mathlib.Core.List.{List}
 use lib.ListN.{length, take}
+use Rattle.refusals.specs.Stop.{unlessStopped}
 use Rattle.writing.specs.declared.Written.{Written}
 use Rattle.operators.specs.Operator.{base}
 use Rattle.folding.specs.Call as folding
@@ -32,7 +33,7 @@ use Rattle.answers.specs.Answer.{ofWritten}
 use Rattle.keys.specs.Key.{keyOrder, rowsStop}
 use Rattle.answers.specs.Tells.{Tells}
 use Rattle.answers.specs.Row.{PartIs}
-use Rattle.answers.specs.Earlier.{whichEarlier, unlessStopped, whichOf}
+use Rattle.answers.specs.Earlier.{whichEarlier, whichOf}
 use Rattle.answers.specs.declared.Answer.{Answer}
 use Rattle.answers.specs.declared.Part.{Part}
 use Rattle.answers.proofs.Unique.{OneEvaluated, one-evaluated, one-folded, one-joined, one-part, one-struct}
@@ -164,7 +165,7 @@ pub one-earlier : (columns text text′ : List ℕ) (used : ℕ) (first second :
     → whichEarlier columns text used first second ≡ whichEarlier columns text′ used first second
 unfolding whichEarlier
 one-earlier columns text text′ used first second s =
-    also (λ n t. unlessStopped (rowsStop columns n used first second) (whichOf (keyOrder columns t first second)) ≡ whichEarlier columns text′ used first second)
+    also (λ n t. unlessStopped (λ number place. 0) (rowsStop columns n used first second) (whichOf (keyOrder columns t first second)) ≡ whichEarlier columns text′ used first second)
     used text text′ s refl
 
 -- `row` is lent no text

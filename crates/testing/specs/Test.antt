@@ -11,10 +11,10 @@ use Rattle.values.specs.Value.{toBool}
 use Rattle.checks.specs.Check.{roomStop, cellsStop}
 use Rattle.integers.specs.Outcome.{Outcome, value}
 use Rattle.operators.specs.declared.Rules.{Rules}
-use Rattle.conditions.specs.Ast.{Tree, mapTree, eval}
+use Rattle.conditions.specs.Ast.{mapTree, eval}
 use Rattle.conditions.specs.Table.{leafOf, rowOf}
 use Rattle.nodes.specs.declared.Allowed.the-variants.{Bound}
-use Rattle.forms.specs.Form.{Parsed, tree, refusal, parsed, formStop}
+use Rattle.forms.specs.Form.{parsed, formStop, ofTree}
 use Rattle.forms.specs.Held.{ScanIs}
 use Rattle.forms.specs.declared.Scanned.{Scanned}
 use Rattle.forms.specs.declared.Scanned.the-variants.{Table, Denied}
@@ -33,15 +33,11 @@ abbrev pub testedOf : Outcome → Tested
 testedOf (value v) = is (toBool v)
 testedOf (Outcome.refused number) = refuses number
 
--- of a condition that is one: its tree's truth; of any other its refusal
-abbrev pub ofTree : (Tree ℕ → Outcome) → Parsed → Tested
-ofTree f (tree t) = testedOf (f t)
-ofTree f (refusal number place) = refuses number
-
 -- a condition on a row, both read in the stored text; no condition counts as true
 unfoldable pub test : Rules → List ℕ → ℕ → List ℕ → List ℕ → Tested
 test R [] used stored row = is true
-test R (x ∷ b) used stored row = ofTree (λ t. eval R (rowOf stored row) (mapTree (leafOf stored) t)) (parsed Bound used (x ∷ b))
+test R (x ∷ b) used stored row =
+    ofTree (λ t. testedOf (eval R (rowOf stored row) (mapTree (leafOf stored) t))) (λ number place. refuses number) (parsed Bound used (x ∷ b))
 
 -- the form of a condition, then 4 over its columns; no condition has neither
 abbrev pub conditionStop : ℕ → ℕ → List ℕ → Stop
