@@ -7,7 +7,6 @@ use Rattle.refusals.specs.Stop.{Stop, never, stop, stopOf, unlessStopped}
 use Rattle.refusals.specs.declared.Refusal.{Refusal}
 use Rattle.slices.specs.declared.Ordering.{Ordering}
 use Rattle.slices.specs.declared.Ordering.the-variants.{Less, Equal, Greater}
-use Rattle.keys.specs.Key as key
 use Rattle.keys.specs.Key.{keyOrder, pick, rowsStop, earlierOf}
 use Rattle.answers.specs.Earlier.{whichOf, whichEarlier, handed}
 
