@@ -1,16 +1,16 @@
 -- Which check stops `bind`, what is known where none does, and what the walk's answer makes of the whole. Assumes nothing.
 use mathlib.Core.Path.{_≡_, refl, sym, ap, subst, _∙_}
-use mathlib.Core.Bool.{Bool, true, false, not}
+use mathlib.Core.Bool.{not}
 use mathlib.Core.List.{List, []}
 use Prim.Native.Nat.{ℕ, _+_, _-_, _≤_}
 use native.Mathlib.Omega.{arith}
 use lib.ListN.{length, take}
 use lib.Seq.{length-take-le}
-use borrow.Author.Tests.{ltb-false}
+use borrow.Author.Tests.{ltb-false, not-false}
 use Rattle.refusals.specs.Told.{told}
-use Rattle.refusals.specs.Stop.{Stop, never, stop, stopIf, stopOf, orElse}
+use Rattle.refusals.specs.Stop.{Stop, never, stop, stopOf, orElse}
 use Rattle.refusals.specs.declared.Refusal.{Refusal}
-use Rattle.refusals.proofs.First.{never-both}
+use Rattle.refusals.proofs.First.{never-both, not-stopped}
 use Rattle.writing.specs.Writing.{WrittenIs}
 use Rattle.writing.specs.declared.Written.{Written}
 use Rattle.columns.specs.Column.{columnsStop}
@@ -39,19 +39,10 @@ in-order never never (stop n p) d later = refl
 in-order never (stop n p) c d later = refl
 in-order (stop n p) b c d later = refl
 
--- a test that stops nothing is false
-not-stopped : (x : Bool) (n p : ℕ) → stopIf x n p ≡ never → x ≡ false
-not-stopped true n p e = absurd (let z : _≡_ {A = ℕ} 0 1 = cc in omega arith)
-not-stopped false n p e = refl
-
 -- a table that is not stopped has 2 to 64 words
-not-not : (x : Bool) → not x ≡ false → x ≡ true
-not-not true e = refl
-not-not false e = absurd (let z : _≡_ {A = ℕ} 0 1 = cc in omega arith)
-
 table-bounds : (columns : List ℕ) → countStop (isTable columns) ≡ never → (2 ≤ length columns) × (length columns ≤ 64)
 table-bounds columns e =
-    let t = table-counted columns (not-not (isTable columns) (not-stopped (not (isTable columns)) 8 0 e)) in
+    let t = table-counted columns (not-false (isTable columns) (not-stopped (not (isTable columns)) 8 0 e)) in
     (omega (arith, t .whole, t .some), omega (arith, t .whole, t .few))
 
 module _ (b columns stored : List ℕ) (size used output : ℕ) where

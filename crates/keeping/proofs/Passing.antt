@@ -5,7 +5,6 @@ use mathlib.Core.List.{List, [], _∷_}
 use Prim.Native.Nat.{ℕ, _*_, _≤_}
 use native.Mathlib.Omega.{arith}
 use lib.ListN.{length}
-use borrow.Author.Tests.{le-leb}
 use Rattle.refusals.specs.Stop.{never, stop, checkedOf, orElse}
 use Rattle.refusals.specs.declared.Refusal.{Refusal}
 use Rattle.refusals.specs.declared.Checked.{Checked}
@@ -14,7 +13,7 @@ use Rattle.refusals.proofs.First.{told-refused, never-both, nothing-behind}
 use Rattle.slices.specs.Bytes.{both}
 use Rattle.slices.proofs.Both.{both-true}
 use Rattle.checks.specs.Check.{roomStop, cellsStop}
-use Rattle.evaluation.specs.Evaluation.{isRowLength}
+use Rattle.evaluation.proofs.Stopping.{row-right}
 use Rattle.tables.specs.Table.{columnCount, isTable, areRows, countStop, wordsStop}
 use Rattle.tables.proofs.Words.{Counted, table-counted, words-sound, count-right, rows-whole}
 use Rattle.testing.specs.Test.{roomFor}
@@ -57,11 +56,6 @@ module _ (counts : Bool) (b columns rows : List ℕ) (size used : ℕ) where
 
 -- ---- where none does
 
--- 1 to 32 columns are a row's length
-row-wide : (width : ℕ) → 1 ≤ width → width ≤ 32 → isRowLength width ≡ true
-unfolding isRowLength
-row-wide width h k = rw (le-leb 1 width h, le-leb width 32 k)
-
 -- what is known of a table that was passed
 pub record Passed (counts : Bool) (b columns rows : List ℕ) (size used : ℕ) : Type 0 where
   pub right : counts ≡ true
@@ -95,7 +89,7 @@ pub passed-asks : {counts : Bool} {b columns rows : List ℕ} {used : ℕ} (text
 passed-asks text marks P l =
     record {
       room = P .room;
-      wide = row-wide _ (P .table .some) (P .table .few);
+      wide = row-right _ (P .table .some) (P .table .few);
       whole = P .whole;
       cells = P .cells;
       few = P .few;
