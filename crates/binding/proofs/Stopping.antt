@@ -1,14 +1,14 @@
 -- Which check stops `bind`, what is known where none does, and what the walk's answer makes of the whole. Assumes nothing.
-use mathlib.Core.Path.{_≡_, refl, sym, ap, subst, _∙_}
+use mathlib.Core.Path.{_≡_, sym, ap, subst, _∙_}
 use mathlib.Core.List.{List, []}
 use Prim.Native.Nat.{ℕ, _+_, _-_, _≤_}
 use native.Mathlib.Omega.{arith}
 use lib.ListN.{length, take}
 use lib.Seq.{length-take-le}
 use Rattle.refusals.specs.Told.{told}
-use Rattle.refusals.specs.Stop.{Stop, never, stop, stopOf, orElse}
+use Rattle.refusals.specs.Stop.{Stop, never, stopOf, orElse}
 use Rattle.refusals.specs.declared.Refusal.{Refusal}
-use Rattle.refusals.proofs.First.{never-both}
+use Rattle.refusals.proofs.First.{never-both, four-in-a-row}
 use Rattle.writing.specs.Writing.{WrittenIs}
 use Rattle.writing.specs.declared.Written.{Written}
 use Rattle.columns.specs.Column.{columnsStop}
@@ -30,13 +30,6 @@ use Rattle.numbering.specs.declared.Part.{Part}
 use Rattle.numbering.specs.declared.Part.the-variants.{Bound, Refused}
 use Rattle.binding.proofs.Walking.{bound-width}
 
--- what stands in one group stands in order
-in-order : (a b c d later : Stop) → orElse a (orElse b (orElse c (orElse d later))) ≡ orElse (orElse a (orElse b (orElse c d))) later
-in-order never never never d later = refl
-in-order never never (stop n p) d later = refl
-in-order never (stop n p) c d later = refl
-in-order (stop n p) b c d later = refl
-
 -- a table that is not stopped has 2 to 64 words
 table-bounds : (columns : List ℕ) → countStop (isTable columns) ≡ never → (2 ≤ length columns) × (length columns ≤ 64)
 table-bounds columns e =
@@ -54,7 +47,7 @@ module _ (b columns stored : List ℕ) (size used output : ℕ) where
 
   -- what stops it before the condition, then the rest
   in-groups : whole ≡ orElse (beforeStop columns size used output) later
-  in-groups = in-order (roomStop 32768 size used) (outputStop output) (countStop (isTable columns)) (columnsStop used 0 columns) later
+  in-groups = sym (four-in-a-row (roomStop 32768 size used) (outputStop output) (countStop (isTable columns)) (columnsStop used 0 columns) later)
 
   -- a refusal before the condition is the whole's
   pub before-stops : (r : Refusal) → beforeStop columns size used output ≡ stopOf r → bindStop b columns stored size used output ≡ stopOf r
