@@ -29,13 +29,10 @@ fn left_so(case: &[u8], lent: Text, answer: Joined, text: &[u8], out: &[u64], ru
     requires { ⌜ (lent .stored .start + lent .stored .count ≤ length (now case)) × (lent .stored .next ≤ length (now case)) ⌝ }
 {
     let stored = replay::part(case, lent.stored);
-    let at = replay::after(case, lent.stored.next, 4);
-    let e = replay::answer(case, at);
-    let mut place = [0u64; 8200];
-    let result = replay::words(case, replay::after(case, at, 32), &mut place);
-    let count = result.count;
-    let new = replay::part(case, replay::bytes(case, result.next));
-    if !replay::words_are(out, &place[0..count], rubbish) {
+    let outcome = replay::outcome_of(case, lent.stored.next, out, rubbish);
+    let e = outcome.expected;
+    let new = replay::part(case, replay::bytes(case, outcome.next));
+    if !outcome.written {
         return false;
     }
     let used = lent.used;
