@@ -1,7 +1,7 @@
 // Replays the recorded cases of the operators (docs/CASES.md, call 18 on conditions of one operator) from standard input.
 // The operands are leaves, so the operators are called on their words directly.
 ghost use mathlib.Core.Path.{_≡_};
-ghost use Prim.Native.Nat.{_+_, _≤_};
+ghost use Prim.Native.Nat.{_≤_};
 ghost use lib.ListN.{length};
 use integers::Answer;
 use operators::Rules;
