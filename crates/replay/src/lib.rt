@@ -5,6 +5,7 @@ ghost use lib.ListN.{length, getD};
 ghost use Rattle.replay.specs.Number.{Four, Read, eightAt};
 use libc::STDIN_FILENO;
 use libc::STDOUT_FILENO;
+use writing::Written;
 
 // A slice of a case: its first byte, how many elements it has, and where the next part starts.
 pub struct Field {
@@ -35,6 +36,13 @@ pub struct Rest {
     pub expected: Expected,
     pub written: Field,
     pub new: Field,
+}
+
+// What a case has of a call that writes words: the answer's numbers, whether the output is as it should be, and where the part after its words starts.
+pub struct Outcome {
+    pub expected: Expected,
+    pub written: bool,
+    pub next: usize,
 }
 
 fn byte(case: &[u8], at: usize) -> u64
@@ -188,6 +196,14 @@ pub fn is_answer(e: Expected, number: u64, place: usize, value: usize, used: usi
         && used as u64 == e.used
 }
 
+// Whether an answer is the one expected, with the mark where it was.
+pub fn is_written(e: Expected, answer: Written, used: usize) -> bool {
+    match answer {
+        Written::Count(n) => is_answer(e, 0, 0, n, used),
+        Written::Refused(r) => is_answer(e, r.number(), r.place(), 0, used),
+    }
+}
+
 // The byte of rubbish at a place.
 fn rubbish_at(at: usize, rubbish: u64) -> u8 {
     ((at as u64 % 1000 * 7 + rubbish % 1000) % 256) as u8
@@ -273,6 +289,31 @@ pub fn words_are(out: &[u64], result: &[u64], rubbish: u64) -> bool {
     true
 }
 
+// The outcome of a call, where the length of its output stands at this place and the output was lent with this rubbish.
+pub fn outcome_of(case: &[u8], at: usize, out: &[u64], rubbish: u64) -> Outcome
+    requires { ⌜ at ≤ length (now case) ⌝ }
+    ensures { λ r. ⌜ r .next ≤ length (now (case .entry)) ⌝ }
+{
+    let place = after(case, at, 4);
+    let mut space = [0u64; 8200];
+    let result = words(case, after(case, place, 32), &mut space);
+    let count = result.count;
+    Outcome {
+        expected: answer(case, place),
+        written: words_are(out, &space[0..count], rubbish),
+        next: result.next,
+    }
+}
+
+// Whether a text holds the stored bytes at its start.
+pub fn keeps(text: &[u8], stored: &[u8]) -> bool {
+    let end = stored.len();
+    if text.len() < end {
+        return false;
+    }
+    slices::equal_bytes(&text[0..end], stored)
+}
+
 // Whether a text holds the stored bytes at its start, and the new ones from there to the mark or its end.
 pub fn text_is(text: &[u8], stored: &[u8], new: &[u8], mark: usize) -> bool {
     let start = stored.len();
@@ -284,7 +325,7 @@ pub fn text_is(text: &[u8], stored: &[u8], new: &[u8], mark: usize) -> bool {
 }
 
 // Whether a word is the text expected, computed above the mark.
-pub fn holds_text(word: u64, text: &[u8], used: usize, content: &[u8]) -> bool {
+fn holds_text(word: u64, text: &[u8], used: usize, content: &[u8]) -> bool {
     let start = (word / 65536 % 0x1_0000_0000) as usize;
     let end = start + (word % 65536) as usize;
     if word / 0x100_0000_0000_0000 != 2 {
@@ -297,6 +338,17 @@ pub fn holds_text(word: u64, text: &[u8], used: usize, content: &[u8]) -> bool {
         return false;
     }
     slices::equal_bytes(&text[start..end], content)
+}
+
+// Whether a word is the one expected; a text that was computed is known by its content.
+pub fn is_word(e: Expected, word: u64, text: &[u8], used: usize, content: &[u8]) -> bool {
+    if e.number != 0 {
+        return false;
+    }
+    if e.value / 65536 == 0x200_ffff_ffff {
+        return holds_text(word, text, used, content);
+    }
+    word == e.value
 }
 
 // Reads the next case from standard input into the start of space, and answers its length, or 0 at the end.
@@ -324,7 +376,7 @@ pub fn report(cases: u64, differ: u64) {
 }
 
 // `case N differs`
-pub fn tell(case: u64) {
+fn tell(case: u64) {
     io::write_all(STDOUT_FILENO, b"case ");
     io::print_decimal(STDOUT_FILENO, case);
     io::write_all(STDOUT_FILENO, b" differs\n");

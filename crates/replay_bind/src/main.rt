@@ -1,15 +1,6 @@
 // Replays the recorded cases of `bind` (docs/CASES.md, call 20) from standard input.
 ghost use Prim.Native.Nat.{_≤_};
 use replay::Expected;
-use writing::Written;
-
-// Whether an answer is the one expected, with the mark where it was.
-fn agrees(answer: Written, e: Expected, used: usize) -> bool {
-    match answer {
-        Written::Count(n) => replay::is_answer(e, 0, 0, n, used),
-        Written::Refused(r) => replay::is_answer(e, r.number(), r.place(), 0, used),
-    }
-}
 
 // Whether the call gives the answer, the output and the text expected, with the text above the mark and the output filled with this rubbish.
 fn called(
@@ -30,7 +21,7 @@ fn called(
     replay::lend(text, stored, rubbish);
     replay::lend(out, &stored[..0], rubbish);
     let answer = binding::bind(condition, columns, text, used, out);
-    agrees(answer, e, used)
+    replay::is_written(e, answer, used)
         && replay::output_is(out, written, rubbish)
         && replay::text_is(text, stored, new, e.used as usize)
 }

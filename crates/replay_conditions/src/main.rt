@@ -6,23 +6,12 @@ use evaluation::Evaluated;
 use replay::Expected;
 
 // Whether an answer is the one expected, and the stored text as it was.
-fn agrees(answer: Evaluated, e: Expected, text: &[u8], stored: &[u8], content: &[u8]) -> bool
-    requires { ⌜ length (now stored) ≤ length (now text) ⌝ }
-{
-    let used = stored.len();
-    if !slices::equal_bytes(&text[..used], stored) {
+fn agrees(answer: Evaluated, e: Expected, text: &[u8], stored: &[u8], content: &[u8]) -> bool {
+    if !replay::keeps(text, stored) {
         return false;
     }
     match answer {
-        Evaluated::Cell(word) => {
-            if e.number != 0 {
-                return false;
-            }
-            if e.value / 65536 == 0x200_ffff_ffff {
-                return replay::holds_text(word, text, used, content);
-            }
-            word == e.value
-        }
+        Evaluated::Cell(word) => replay::is_word(e, word, text, stored.len(), content),
         Evaluated::Refused(r) => r.number() == e.number && r.place() as u64 == e.place,
     }
 }
@@ -87,13 +76,7 @@ fn difference(case: &[u8], text: &mut [u8], number: u64) -> u64
 {
     let one = replays(case, text, number % 1000);
     let two = replays(case, text, 77 + number % 1000);
-    if one {
-        if two {
-            return 0;
-        }
-    }
-    replay::tell(number);
-    1
+    replay::verdict(number, one && two)
 }
 
 fn main() {

@@ -2,25 +2,6 @@
 ghost use Prim.Native.Nat.{_+_, _≤_};
 ghost use lib.ListN.{length};
 use replay::Text;
-use writing::Written;
-
-// Whether an answer and the output are those expected at this place of the case.
-fn left_so(case: &[u8], lent: Text, answer: Written, out: &[u64], rubbish: u64) -> bool
-    requires { ⌜ lent .stored .next ≤ length (now case) ⌝ }
-{
-    let at = replay::after(case, lent.stored.next, 4);
-    let e = replay::answer(case, at);
-    let mut place = [0u64; 8200];
-    let result = replay::words(case, replay::after(case, at, 32), &mut place);
-    let count = result.count;
-    let written = replay::words_are(out, &place[0..count], rubbish);
-    match answer {
-        Written::Count(n) => written && replay::is_answer(e, 0, 0, n, lent.used),
-        Written::Refused(r) => {
-            written && replay::is_answer(e, r.number(), r.place(), 0, lent.used)
-        }
-    }
-}
 
 // Whether the call leaves what is expected, with the text above the mark and the output filled with this rubbish. The text is lent
 // read-only, so it is as it was.
@@ -43,7 +24,8 @@ fn agrees<'a>(
     replay::lend(text, stored, rubbish);
     replay::lend_words(out, rubbish);
     let answer = inserting::insert(columns, old, new, text, lent.used, out);
-    left_so(case, lent, answer, out, rubbish)
+    let outcome = replay::outcome_of(case, lent.stored.next, out, rubbish);
+    outcome.written && replay::is_written(outcome.expected, answer, lent.used)
 }
 
 // One case from its text on.

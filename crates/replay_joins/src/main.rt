@@ -4,22 +4,35 @@ ghost use Prim.Native.Nat.{_+_, _≤_};
 ghost use lib.ListN.{length};
 use naming::Joined;
 use refusals::Refusal;
-use replay::Field;
 use replay::Text;
 use writing::Written;
+
+// A call: whether its join is a left one, whether a select follows, and where its parts start in the case. Only a select has names, a list and a
+// condition of its own.
+struct Call {
+    outer: bool,
+    selects: bool,
+    left_name: usize,
+    left_columns: usize,
+    left: usize,
+    right_name: usize,
+    right_columns: usize,
+    right: usize,
+    on: usize,
+    list: usize,
+    condition: usize,
+    text: usize,
+}
 
 // Whether an answer is the one expected at this place of the case, the text up to the mark as expected, and the output too.
 fn left_so(case: &[u8], lent: Text, answer: Joined, text: &[u8], out: &[u64], rubbish: u64) -> bool
     requires { ⌜ (lent .stored .start + lent .stored .count ≤ length (now case)) × (lent .stored .next ≤ length (now case)) ⌝ }
 {
     let stored = replay::part(case, lent.stored);
-    let at = replay::after(case, lent.stored.next, 4);
-    let e = replay::answer(case, at);
-    let mut place = [0u64; 8200];
-    let result = replay::words(case, replay::after(case, at, 32), &mut place);
-    let count = result.count;
-    let new = replay::part(case, replay::bytes(case, result.next));
-    if !replay::words_are(out, &place[0..count], rubbish) {
+    let outcome = replay::outcome_of(case, lent.stored.next, out, rubbish);
+    let e = outcome.expected;
+    let new = replay::part(case, replay::bytes(case, outcome.next));
+    if !outcome.written {
         return false;
     }
     let used = lent.used;
@@ -34,57 +47,54 @@ fn left_so(case: &[u8], lent: Text, answer: Joined, text: &[u8], out: &[u64], ru
     }
 }
 
+// The bytes that stand at a place.
+fn bytes_at(case: &[u8], at: usize) -> &[u8] {
+    let place = replay::after(case, 0, at);
+    replay::part(case, replay::bytes(case, place))
+}
+
+// How many words stand at a place, put at the start of words.
+fn words_at(case: &[u8], at: usize, words: &mut [u64]) -> usize
+    ensures { λ r. ⌜ (r ≤ length (now (words .exit))) × (length (now (words .exit)) ≡ length (now (words .entry))) ⌝ }
+{
+    let place = replay::after(case, 0, at);
+    let field = replay::words(case, place, words);
+    field.count
+}
+
 // The columns of a left join, or else of an inner one.
-fn head(
-    outer: bool,
-    left_name: &[u8],
-    left_columns: &[u64],
-    right_name: &[u8],
-    right_columns: &[u64],
-    text: &mut [u8],
-    used: usize,
-    out: &mut [u64],
-) -> Joined {
-    if outer {
-        return heads::left_join_columns(
-            left_name,
-            left_columns,
-            right_name,
-            right_columns,
-            text,
-            used,
-            out,
-        );
+fn head(case: &[u8], call: Call, text: &mut [u8], used: usize, out: &mut [u64]) -> Joined {
+    let left_name = bytes_at(case, call.left_name);
+    let right_name = bytes_at(case, call.right_name);
+    let mut one = [0u64; 68];
+    let a = words_at(case, call.left_columns, &mut one);
+    let left = &one[0..a];
+    let mut two = [0u64; 68];
+    let b = words_at(case, call.right_columns, &mut two);
+    let right = &two[0..b];
+    if call.outer {
+        return heads::left_join_columns(left_name, left, right_name, right, text, used, out);
     }
-    heads::inner_join_columns(
-        left_name,
-        left_columns,
-        right_name,
-        right_columns,
-        text,
-        used,
-        out,
-    )
+    heads::inner_join_columns(left_name, left, right_name, right, text, used, out)
 }
 
 // The rows of a left join, or else of an inner one.
-fn joined(
-    outer: bool,
-    left_columns: &[u64],
-    left: &[u64],
-    right_columns: &[u64],
-    right: &[u64],
-    on: &[u8],
-    text: &mut [u8],
-    used: usize,
-    out: &mut [u64],
-) -> Written {
-    if outer {
+fn joined(case: &[u8], call: Call, text: &mut [u8], used: usize, out: &mut [u64]) -> Written {
+    let on = bytes_at(case, call.on);
+    let mut one = [0u64; 68];
+    let a = words_at(case, call.left_columns, &mut one);
+    let mut two = [0u64; 4100];
+    let b = words_at(case, call.left, &mut two);
+    let mut three = [0u64; 68];
+    let c = words_at(case, call.right_columns, &mut three);
+    let mut four = [0u64; 4100];
+    let d = words_at(case, call.right, &mut four);
+    if call.outer {
         return joins::left_join(
-            left_columns,
-            left,
-            right_columns,
-            right,
+            &one[0..a],
+            &two[0..b],
+            &three[0..c],
+            &four[0..d],
             on,
             text,
             used,
@@ -92,10 +102,10 @@ fn joined(
         );
     }
     joins::inner_join(
-        left_columns,
-        left,
-        right_columns,
-        right,
+        &one[0..a],
+        &two[0..b],
+        &three[0..c],
+        &four[0..d],
         on,
         text,
         used,
@@ -141,154 +151,56 @@ fn select_from(
 
 // Rows and select in turn, where the joined columns are these.
 fn select_rows(
-    outer: bool,
+    case: &[u8],
+    call: Call,
     columns: &[u64],
-    left_columns: &[u64],
-    left: &[u64],
-    right_columns: &[u64],
-    right: &[u64],
-    on: &[u8],
-    list: &[u64],
-    condition: &[u8],
     text: &mut [u8],
     mark: usize,
     out: &mut [u64],
 ) -> Joined {
     let mut rows = [0u64; 9000];
-    let answer = joined(
-        outer,
-        left_columns,
-        left,
-        right_columns,
-        right,
-        on,
-        text,
-        mark,
-        &mut rows,
-    );
+    let answer = joined(case, call, text, mark, &mut rows);
     let Written::Count(count) = answer else {
         return marked(answer, mark);
     };
+    let mut space = [0u64; 40];
+    let named = words_at(case, call.list, &mut space);
+    let list = &space[0..named];
+    let condition = bytes_at(case, call.condition);
     select_from(columns, &rows, count, list, condition, text, mark, out)
 }
 
 // Columns, rows and select in turn, each on what the one before left; the first refusal ends it.
-fn select_joined(
-    outer: bool,
-    left_name: &[u8],
-    left_columns: &[u64],
-    left: &[u64],
-    right_name: &[u8],
-    right_columns: &[u64],
-    right: &[u64],
-    on: &[u8],
-    list: &[u64],
-    condition: &[u8],
-    text: &mut [u8],
-    used: usize,
-    out: &mut [u64],
-) -> Joined {
+fn select_joined(case: &[u8], call: Call, text: &mut [u8], used: usize, out: &mut [u64]) -> Joined {
     let mut space = [0u64; 64];
-    let answer = head(
-        outer,
-        left_name,
-        left_columns,
-        right_name,
-        right_columns,
-        text,
-        used,
-        &mut space,
-    );
+    let answer = head(case, call, text, used, &mut space);
     let Joined::Words(words, mark) = answer else {
         return answer;
     };
     if 64 < words {
         return Joined::Refused(Refusal::OutputShort(0));
     }
-    let columns = &space[0..words];
-    select_rows(
-        outer,
-        columns,
-        left_columns,
-        left,
-        right_columns,
-        right,
-        on,
-        list,
-        condition,
-        text,
-        mark,
-        out,
-    )
+    select_rows(case, call, &space[0..words], text, mark, out)
 }
 
-// The call of this number.
-fn called(
-    call: u8,
-    left_name: &[u8],
-    left_columns: &[u64],
-    left: &[u64],
-    right_name: &[u8],
-    right_columns: &[u64],
-    right: &[u64],
-    on: &[u8],
-    list: &[u64],
-    condition: &[u8],
-    text: &mut [u8],
-    used: usize,
-    out: &mut [u64],
-) -> Joined {
-    if call < 31 {
-        return marked(
-            joined(
-                call == 27,
-                left_columns,
-                left,
-                right_columns,
-                right,
-                on,
-                text,
-                used,
-                out,
-            ),
-            used,
-        );
+// What the call of a case gives.
+fn called(case: &[u8], call: Call, text: &mut [u8], used: usize, out: &mut [u64]) -> Joined {
+    if call.selects {
+        return select_joined(case, call, text, used, out);
     }
-    select_joined(
-        call == 32,
-        left_name,
-        left_columns,
-        left,
-        right_name,
-        right_columns,
-        right,
-        on,
-        list,
-        condition,
-        text,
-        used,
-        out,
-    )
+    marked(joined(case, call, text, used, out), used)
 }
 
 // Whether the call leaves what is expected, with the text above the mark and the output filled with this rubbish.
 fn agrees(
     case: &[u8],
+    call: Call,
     lent: Text,
-    left_name: &[u8],
-    left_columns: &[u64],
-    left: &[u64],
-    right_name: &[u8],
-    right_columns: &[u64],
-    right: &[u64],
-    on: &[u8],
-    list: &[u64],
-    condition: &[u8],
     text: &mut [u8],
     out: &mut [u64],
     rubbish: u64,
 ) -> bool
-    requires { ⌜ (1 ≤ length (now case)) × (lent .stored .start + lent .stored .count ≤ length (now case)) × (lent .stored .next ≤ length (now case)) ⌝ }
+    requires { ⌜ (lent .stored .start + lent .stored .count ≤ length (now case)) × (lent .stored .next ≤ length (now case)) ⌝ }
 {
     let stored = replay::part(case, lent.stored);
     if text.len() < stored.len() {
@@ -296,9 +208,52 @@ fn agrees(
     }
     replay::lend(text, stored, rubbish);
     replay::lend_words(out, rubbish);
-    let answer = called(
-        case[0],
-        left_name,
+    let answer = called(case, call, text, lent.used, out);
+    left_so(case, lent, answer, text, out, rubbish)
+}
+
+// Where the slice of bytes at a place ends, or the place itself where the case has none.
+fn past_bytes(case: &[u8], at: usize, has: bool) -> usize
+    requires { ⌜ at ≤ length (now case) ⌝ }
+    ensures { λ r. ⌜ r ≤ length (now (case .entry)) ⌝ }
+{
+    if !has {
+        return at;
+    }
+    let field = replay::bytes(case, at);
+    field.next
+}
+
+// Where the slice of words at a place ends, or the place itself where the case has none.
+fn past_words(case: &[u8], at: usize, has: bool) -> usize
+    requires { ⌜ at ≤ length (now case) ⌝ }
+    ensures { λ r. ⌜ r ≤ length (now (case .entry)) ⌝ }
+{
+    if !has {
+        return at;
+    }
+    let count = replay::four(case, at) as usize;
+    replay::after(case, replay::after(case, at, 4), count * 8)
+}
+
+// The call of this number, whose parts follow each other from the fourth byte of the case on.
+fn call_of(case: &[u8], number: u8) -> Call
+    requires { ⌜ 4 ≤ length (now case) ⌝ }
+    ensures { λ r. ⌜ r .text ≤ length (now (case .entry)) ⌝ }
+{
+    let selects = 31 <= number;
+    let left_columns = past_bytes(case, 4, selects);
+    let left = past_words(case, left_columns, true);
+    let right_name = past_words(case, left, true);
+    let right_columns = past_bytes(case, right_name, selects);
+    let right = past_words(case, right_columns, true);
+    let on = past_words(case, right, true);
+    let list = past_bytes(case, on, true);
+    let condition = past_words(case, list, selects);
+    Call {
+        outer: number == 27 || number == 32,
+        selects,
+        left_name: 4,
         left_columns,
         left,
         right_name,
@@ -307,65 +262,21 @@ fn agrees(
         on,
         list,
         condition,
-        text,
-        lent.used,
-        out,
-    );
-    left_so(case, lent, answer, text, out, rubbish)
-}
-
-// The slice of bytes at a place, where only a select over a join has one.
-fn bytes_of_select(case: &[u8], at: usize) -> Field
-    requires { ⌜ (1 ≤ length (now case)) × (at ≤ length (now case)) ⌝ }
-    ensures { λ r. ⌜ (r .start + r .count ≤ length (now (case .entry))) × (r .next ≤ length (now (case .entry))) ⌝ }
-{
-    if case[0] < 31 {
-        return Field {
-            start: at,
-            count: 0,
-            next: at,
-        };
+        text: past_bytes(case, condition, selects),
     }
-    replay::bytes(case, at)
 }
 
-// The column list at a place, where only a select over a join has one.
-fn list_of_select(case: &[u8], at: usize, list: &mut [u64]) -> Field
-    requires { ⌜ (1 ≤ length (now case)) × (at ≤ length (now case)) ⌝ }
-    ensures { λ r. ⌜ (r .count ≤ length (now (list .exit))) × (r .next ≤ length (now (case .entry))) × (length (now (list .exit)) ≡ length (now (list .entry))) ⌝ }
-{
-    if case[0] < 31 {
-        return Field {
-            start: at,
-            count: 0,
-            next: at,
-        };
+// One case.
+fn replays(case: &[u8], text: &mut [u8], out: &mut [u64], rubbish: u64) -> bool {
+    if case.len() < 4 {
+        return false;
     }
-    replay::words(case, at, list)
-}
-
-// One case from its join's condition on.
-fn replays_from(
-    case: &[u8],
-    left_name: &[u8],
-    left_columns: &[u64],
-    left: &[u64],
-    right_name: &[u8],
-    right_columns: &[u64],
-    right: &[u64],
-    at: usize,
-    text: &mut [u8],
-    out: &mut [u64],
-    rubbish: u64,
-) -> bool
-    requires { ⌜ (1 ≤ length (now case)) × (at ≤ length (now case)) ⌝ }
-{
-    let on = replay::bytes(case, at);
-    let mut space = [0u64; 40];
-    let list = list_of_select(case, on.next, &mut space);
-    let count = list.count;
-    let condition = bytes_of_select(case, list.next);
-    let lent = replay::lent(case, condition.next);
+    let number = case[0];
+    if number != 26 && number != 27 && number != 31 && number != 32 {
+        return false;
+    }
+    let call = call_of(case, number);
+    let lent = replay::lent(case, call.text);
     let size = lent.size;
     let room = replay::four(case, lent.stored.next) as usize;
     if text.len() < size {
@@ -376,56 +287,10 @@ fn replays_from(
     }
     agrees(
         case,
+        call,
         lent,
-        left_name,
-        left_columns,
-        left,
-        right_name,
-        right_columns,
-        right,
-        replay::part(case, on),
-        &space[0..count],
-        replay::part(case, condition),
         &mut text[0..size],
         &mut out[0..room],
-        rubbish,
-    )
-}
-
-// One case.
-fn replays(case: &[u8], text: &mut [u8], out: &mut [u64], rubbish: u64) -> bool {
-    if case.len() < 4 {
-        return false;
-    }
-    let call = case[0];
-    if call != 26 && call != 27 && call != 31 && call != 32 {
-        return false;
-    }
-    let left_name = bytes_of_select(case, 4);
-    let mut one = [0u64; 68];
-    let left_columns = replay::words(case, left_name.next, &mut one);
-    let a = left_columns.count;
-    let mut two = [0u64; 4100];
-    let left = replay::words(case, left_columns.next, &mut two);
-    let b = left.count;
-    let right_name = bytes_of_select(case, left.next);
-    let mut three = [0u64; 68];
-    let right_columns = replay::words(case, right_name.next, &mut three);
-    let c = right_columns.count;
-    let mut four = [0u64; 4100];
-    let right = replay::words(case, right_columns.next, &mut four);
-    let d = right.count;
-    replays_from(
-        case,
-        replay::part(case, left_name),
-        &one[0..a],
-        &two[0..b],
-        replay::part(case, right_name),
-        &three[0..c],
-        &four[0..d],
-        right.next,
-        text,
-        out,
         rubbish,
     )
 }

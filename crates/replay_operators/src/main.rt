@@ -1,7 +1,7 @@
 // Replays the recorded cases of the operators (docs/CASES.md, call 18 on conditions of one operator) from standard input.
 // The operands are leaves, so the operators are called on their words directly.
 ghost use mathlib.Core.Path.{_≡_};
-ghost use Prim.Native.Nat.{_+_, _≤_};
+ghost use Prim.Native.Nat.{_≤_};
 ghost use lib.ListN.{length};
 use integers::Answer;
 use operators::Rules;
@@ -119,23 +119,12 @@ fn computed(condition: &[u8], row: &[u64], text: &mut [u8], used: usize) -> Answ
 }
 
 // Whether an answer is the one expected, and the stored text as it was.
-fn agrees(answer: Answer, e: Expected, text: &[u8], stored: &[u8], content: &[u8]) -> bool
-    requires { ⌜ length (now stored) ≤ length (now text) ⌝ }
-{
-    let used = stored.len();
-    if !slices::equal_bytes(&text[..used], stored) {
+fn agrees(answer: Answer, e: Expected, text: &[u8], stored: &[u8], content: &[u8]) -> bool {
+    if !replay::keeps(text, stored) {
         return false;
     }
     match answer {
-        Answer::Gave(word, _) => {
-            if e.number != 0 {
-                return false;
-            }
-            if e.value / 65536 == 0x200_ffff_ffff {
-                return replay::holds_text(word, text, used, content);
-            }
-            word == e.value
-        }
+        Answer::Gave(word, _) => replay::is_word(e, word, text, stored.len(), content),
         Answer::Overflow => e.number == 5 && e.place == 0,
         Answer::ShiftAmount => e.number == 6 && e.place == 0,
         Answer::TooLong => e.number == 7 && e.place == 0,
@@ -200,13 +189,7 @@ fn difference(case: &[u8], text: &mut [u8], number: u64) -> u64
 {
     let one = replays(case, text, number % 1000);
     let two = replays(case, text, 77 + number % 1000);
-    if one {
-        if two {
-            return 0;
-        }
-    }
-    replay::tell(number);
-    1
+    replay::verdict(number, one && two)
 }
 
 fn main() {

@@ -7,14 +7,6 @@ use refusals::Refusal;
 use replay::Expected;
 use writing::Written;
 
-// Whether an answer is the one expected, with the mark where it was.
-fn agrees(answer: Written, e: Expected, used: usize) -> bool {
-    match answer {
-        Written::Count(n) => replay::is_answer(e, 0, 0, n, used),
-        Written::Refused(r) => replay::is_answer(e, r.number(), r.place(), 0, used),
-    }
-}
-
 // Whether a cell is a text with a byte of 128 or more.
 fn is_high(word: u64, stored: &[u8]) -> bool
     requires { ⌜ WellFormed (length (now stored)) word ⌝ }
@@ -79,7 +71,7 @@ fn tried(
     replay::lend(text, stored, rubbish);
     replay::lend(out, &stored[..0], rubbish);
     let answer = called(call, condition, word, stored, text, used, out);
-    agrees(answer, e, used) && replay::output_is(out, written, rubbish)
+    replay::is_written(e, answer, used) && replay::output_is(out, written, rubbish)
 }
 
 // Where the text of a case stands: after the condition, or after the word.

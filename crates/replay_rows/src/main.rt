@@ -9,23 +9,10 @@ fn left_so(case: &[u8], lent: Text, answer: Written, text: &[u8], out: &[u64], r
     requires { ⌜ (lent .stored .start + lent .stored .count ≤ length (now case)) × (lent .stored .next ≤ length (now case)) ⌝ }
 {
     let stored = replay::part(case, lent.stored);
-    let at = replay::after(case, lent.stored.next, 4);
-    let e = replay::answer(case, at);
-    let mut place = [0u64; 4100];
-    let result = replay::words(case, replay::after(case, at, 32), &mut place);
-    let count = result.count;
-    let end = stored.len();
-    if text.len() < end {
-        return false;
-    }
-    let same = slices::equal_bytes(&text[0..end], stored);
-    let written = replay::words_are(out, &place[0..count], rubbish);
-    match answer {
-        Written::Count(n) => same && written && replay::is_answer(e, 0, 0, n, lent.used),
-        Written::Refused(r) => {
-            same && written && replay::is_answer(e, r.number(), r.place(), 0, lent.used)
-        }
-    }
+    let outcome = replay::outcome_of(case, lent.stored.next, out, rubbish);
+    outcome.written
+        && replay::keeps(text, stored)
+        && replay::is_written(outcome.expected, answer, lent.used)
 }
 
 // The call of this number.

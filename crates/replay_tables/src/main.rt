@@ -148,7 +148,7 @@ fn agrees(answer: Joined, e: Expected, text: &[u8], used: usize, new: &[u8]) -> 
     }
 }
 
-// Whether all that a call left is as the answer at this place of the case has it.
+// Whether all that a call left is as the case has it, where the length of the output stands at this place.
 fn left_so(
     case: &[u8],
     at: usize,
@@ -160,13 +160,9 @@ fn left_so(
 ) -> bool
     requires { ⌜ at ≤ length (now case) ⌝ }
 {
-    let e = replay::answer(case, at);
-    let mut place = [0u64; 68];
-    let result = replay::words(case, replay::after(case, at, 32), &mut place);
-    let count = result.count;
-    let new = replay::bytes(case, result.next);
-    replay::words_are(out, &place[..count], rubbish)
-        && agrees(answer, e, text, used, replay::part(case, new))
+    let outcome = replay::outcome_of(case, at, out, rubbish);
+    let new = replay::part(case, replay::bytes(case, outcome.next));
+    outcome.written && agrees(answer, outcome.expected, text, used, new)
 }
 
 // The columns of a left join, or else of an inner one.
@@ -212,8 +208,8 @@ fn called(
     let outer = case[0] == 24;
     let used = lent.used;
     let answer = joined(outer, left_name, left, right_name, right, text, used, out);
-    let at = replay::after(case, lent.stored.next, 4);
-    stands(text, 0, stored.len(), stored) && left_so(case, at, answer, text, used, out, rubbish)
+    let at = lent.stored.next;
+    replay::keeps(text, stored) && left_so(case, at, answer, text, used, out, rubbish)
 }
 
 // Calls 23 and 24: the columns of a join.
@@ -274,13 +270,7 @@ fn difference(case: &[u8], text: &mut [u8], out: &mut [u64], number: u64) -> u64
 {
     let one = replays(case, text, out, number % 1000);
     let two = replays(case, text, out, 77 + number % 1000);
-    if one {
-        if two {
-            return 0;
-        }
-    }
-    replay::tell(number);
-    1
+    replay::verdict(number, one && two)
 }
 
 fn main() {

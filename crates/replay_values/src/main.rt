@@ -161,11 +161,7 @@ fn replays(case: &[u8]) -> bool {
 fn difference(case: &[u8], number: u64) -> u64
     ensures { λ r. ⌜ r ≤ 1 ⌝ }
 {
-    if replays(case) {
-        return 0;
-    }
-    replay::tell(number);
-    1
+    replay::verdict(number, replays(case))
 }
 
 fn main() {

@@ -1,15 +1,6 @@
 // Replays the recorded cases of `with` (docs/CASES.md, call 21) from standard input.
 ghost use Prim.Native.Nat.{_≤_};
 use replay::Expected;
-use writing::Written;
-
-// Whether an answer is the one expected, with the mark where it was.
-fn agrees(answer: Written, e: Expected, used: usize) -> bool {
-    match answer {
-        Written::Count(n) => replay::is_answer(e, 0, 0, n, used),
-        Written::Refused(r) => replay::is_answer(e, r.number(), r.place(), 0, used),
-    }
-}
 
 // Whether the call gives the answer and the output expected, with the text above the mark and the output filled with this rubbish.
 fn called(
@@ -29,7 +20,7 @@ fn called(
     replay::lend(text, stored, rubbish);
     replay::lend(out, &stored[..0], rubbish);
     let answer = conjunction::with(old, new, text, used, out);
-    agrees(answer, e, used) && replay::output_is(out, written, rubbish)
+    replay::is_written(e, answer, used) && replay::output_is(out, written, rubbish)
 }
 
 // One case.

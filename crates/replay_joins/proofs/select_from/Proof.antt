@@ -12,14 +12,12 @@ use Rattle.replay_joins.proofs.select_from.Lts as lts
 use Rattle.replay_joins.proofs.marked.Reads as marked-reads
 use Rattle.selecting.proofs.select.Reads as select-reads
 
--- src/main.rt:127:9
 returns : tie.Need-returns
 returns c = search needs
 
 returns-2 : tie.Need-returns-2
 returns-2 c = search needs
 
--- src/main.rt:129:15
 mul-end : tie.Need-mul-end
 mul-end c =
     let few : (c .before .before .before .before .before .before .before .before .args .count) ≤ 9000 = omega (arith, c .if2 .left) in
@@ -27,39 +25,30 @@ mul-end c =
     let product : (c .before .before .before .before .before .before .before .before .args .count) * (length (now (c .before .before .before .before .before .before .before .before .args .columns)) / 2) ≤ 9000 * 64 = mul-le-mul few narrow in
     omega (arith, product)
 
--- src/main.rt:131:9
 returns-3 : tie.Need-returns-3
 returns-3 c = search needs
 
--- src/main.rt:134:36
 sub-select : tie.Need-sub-select
 sub-select c = search needs
 
--- src/main.rt:134:36
 part-select-start : tie.Need-part-select-start
 part-select-start c = search needs
 
--- src/main.rt:134:36
 part-select-end : tie.Need-part-select-end
 part-select-end c = search needs
 
--- src/main.rt:134:9
 select-requires : tie.Need-select-requires
 select-requires c κs = search needs
 
--- src/main.rt:133:5
 marked-requires : tie.Need-marked-requires
 marked-requires c κs = search needs
 
--- src/main.rt:115:1
 same-length : tie.Need-same-length
 same-length c = search needs
 
--- src/main.rt:115:1
 same-length-2 : tie.Need-same-length-2
 same-length-2 c = search needs
 
--- src/main.rt:115:1
 returns-4 : tie.Need-returns-4
 returns-4 c = search needs
 
