@@ -3,14 +3,12 @@
 use mathlib.Core.Path.{_≡_, refl, sym, ap, ap₂, _∙_}
 use mathlib.Core.List.{List}
 use Prim.Native.Nat.{ℕ}
-use native.Mathlib.Omega.{arith}
 use lib.ListN.{length, take}
 use Rattle.refusals.specs.Stop.{Stop}
 use Rattle.writing.specs.Writing.{WrittenIs}
 use Rattle.writing.specs.declared.Written.{Written}
 use Rattle.writing.proofs.Unique.{one-writing}
-use Rattle.cells.proofs.Words.{ref-null}
-use Rattle.values.specs.Value.{null, valueOf, toValue}
+use Rattle.values.proofs.ByWord.{value-null}
 use Rattle.operators.specs.declared.Rules.{Rules}
 use Rattle.evaluation.specs.Evaluation.{EvaluatedIs}
 use Rattle.evaluation.specs.declared.Evaluated.{Evaluated}
@@ -70,11 +68,6 @@ pub record OneEvaluated (b : List ℕ) (used : ℕ) (after after′ : List ℕ) 
   pub mark : r .used ≡ r′ .used
   pub kept : take used after ≡ take used after′
 
--- a refused call's value is Null's word
-no-value : (s : List ℕ) → valueOf s 0 ≡ null
-unfolding toValue
-no-value s = rw (ref-null 0 (λ e. omega arith) (λ e. omega arith) (λ e. omega arith))
-
 module _ (b : List ℕ) (used : ℕ) (after after′ : List ℕ) (kept : take used after ≡ take used after′) where
   one-fields : (e e′ : Evaluated) → Same b used after after′ e e′ → OneEvaluated b used after after′ (ofEvaluated used e) (ofEvaluated used e′)
   one-fields (Cell w) (Cell w′) s = record { number = refl; place = refl; value = s; mark = refl; kept = kept }
@@ -83,7 +76,7 @@ module _ (b : List ℕ) (used : ℕ) (after after′ : List ℕ) (kept : take us
   one-fields (Refused p) (Refused q) s = record {
     number = ap (λ x. ofEvaluated used (Refused x) .number) s;
     place = ap (λ x. ofEvaluated used (Refused x) .place) s;
-    value = record { content = no-value after ∙ sym (no-value after′); exact = λ n. refl; leaf = λ t e o. refl };
+    value = record { content = value-null after ∙ sym (value-null after′); exact = λ n. refl; leaf = λ t e o. refl };
     mark = refl;
     kept = kept;
   }

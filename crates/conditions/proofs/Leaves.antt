@@ -2,25 +2,20 @@
 use mathlib.Core.Path.{_≡_, refl, sym, ap, _∙_}
 use mathlib.Core.List.{List}
 use Prim.Native.Nat.{ℕ, _^_, _/_, _%_, _<_}
-use native.Mathlib.Omega.{arith}
 use lib.ListN.{length, getD, List·getD-map}
 use mathlib.Core.Bool.{Bool, true, false, cond}
 use lib.Dec.{eqb}
 use borrow.Author.Tests.{eq-eqb, ne-eqb}
 use Rattle.cells.specs.Cell.{WellFormed}
-use Rattle.cells.proofs.Words.{ref-null}
-use Rattle.values.specs.Value.{null, toValue, valueOf}
+use Rattle.values.specs.Value.{null, valueOf}
+use Rattle.values.proofs.ByWord.{value-null}
 use Rattle.integers.specs.Outcome.{value}
 use Rattle.conditions.specs.Ast.{eval}
 use Rattle.conditions.specs.Table.{leafOf, LeafSound, rowOf, RowSound, LeafIs}
 
-null-word : (base : List ℕ) → valueOf base 0 ≡ null
-unfolding toValue
-null-word base = rw (ref-null 0 (λ e. omega arith) (λ e. omega arith) (λ e. omega arith))
-
 row-at : (base row : List ℕ) (c : ℕ) → getD (rowOf base row) c null ≡ valueOf base (getD row c 0)
 unfolding rowOf
-row-at base row c = ap (getD (rowOf base row) c) (sym (null-word base)) ∙ List·getD-map (λ (w : ℕ). valueOf base w) row c 0
+row-at base row c = ap (getD (rowOf base row) c) (sym (value-null base)) ∙ List·getD-map (λ (w : ℕ). valueOf base w) row c 0
 
 pub column-below : (used n w : ℕ) → w / 2 ^ 56 ≡ 4 → LeafSound used n w → w % 2 ^ 56 < n
 unfolding LeafSound

@@ -17,7 +17,7 @@ use Rattle.cells.specs.Cell.{kindOf, startOf, lengthOf, isCell, refOf, wordOf}
 use Rattle.cells.specs.declared.ValueRef.{ValueRef}
 use Rattle.cells.specs.declared.ValueRef.the-variants.{Null, Int, Str, Binary}
 use Rattle.cells.proofs.Words.{ref-int, ref-str, ref-binary, ref-null, word-back, held-int}
-use Rattle.values.specs.Value.{int, str, toValue, valueOf}
+use Rattle.values.specs.Value.{null, int, str, toValue, valueOf}
 use Rattle.values.specs.Order.{byInts, order}
 use Rattle.values.proofs.Ordered.{order-equal}
 
@@ -30,6 +30,11 @@ value-int t w e = rw (ref-int w e)
 pub value-str : (t : List ℕ) (w : ℕ) → kindOf w ≡ 2 → valueOf t w ≡ str (piece (startOf w) (lengthOf w) t)
 unfolding toValue
 value-str t w e = rw (ref-str w e)
+
+-- the word 0
+pub value-null : (t : List ℕ) → valueOf t 0 ≡ null
+unfolding toValue
+value-null t = rw (ref-null 0 (λ e. omega arith) (λ e. omega arith) (λ e. omega arith))
 
 -- two Ints, as the code passes them on
 pub ints-order : (t : List ℕ) (a b : ℕ) (o : Ordering) → kindOf a ≡ 1 → kindOf b ≡ 1
