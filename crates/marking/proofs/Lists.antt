@@ -208,6 +208,7 @@ cells-front used p q (suc n) (w ∷ ws) h =
     let s = never-both (cellStop used w p) (cellsStop used (suc p) ws) h in
     rw (cell-anywhere used w p q (s .0)) (cells-front used (suc p) (suc q) n ws (s .1))
 
+-- what is left of sound cells behind a front is sound
 cells-left : (used p n : ℕ) (ws : List ℕ) → cellsStop used p ws ≡ never → cellsStop used (p + n) (drop n ws) ≡ never
 unfolding cellsStop
 cells-left used p zero ws h = rw (add-zero p) h
