@@ -88,9 +88,10 @@ module _ (R : Rules) (b row before after after′ : List ℕ) (used : ℕ) (r r�
       let e = one-evaluation R b row before after after′ used (h .answer) (k .answer) (h .is) (k .is) in
       rw (h .says, k .says) (one-fields b used after after′ (e .0) (h .answer) (k .answer) (e .1))
 
--- row: one part
+-- two parts with one start and one length
 one-record : (p q : Part) → p .start ≡ q .start → p .length ≡ q .length → p ≡ q
 one-record p q s l = ap₂ (λ a b. record { start = a; length = b }) s l
 
+-- row: one part
 pub one-part : (rows : List ℕ) (width number : ℕ) (p q : Part) → PartIs rows width number p → PartIs rows width number q → p ≡ q
 one-part rows width number p q h k = one-record p q (h .begins ∙ sym (k .begins)) (h .long ∙ sym (k .long))

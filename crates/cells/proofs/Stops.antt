@@ -62,11 +62,12 @@ pub cell-by : (w k m : ℕ) → kindOf w ≡ k → bodiesOf k ≡ m → bodyOf w
 unfolding isCell
 cell-by w k m e f h = lt-ltb (bodyOf w) (bodiesOf (kindOf w)) (rw (e, f) h)
 
--- a word of another kind than text reaches nowhere, and a text that ends at the mark or before not beyond it
+-- a word of another kind than text reaches nowhere
 pub text-by : (used w k : ℕ) → kindOf w ≡ k → (k ≡ 2 → ⊥) → reachesBeyond used w ≡ false
 unfolding reachesBeyond
 text-by used w k e n = rw (e, ne-eqb k 2 n)
 
+-- a text that ends at the mark or before does not reach beyond it
 pub inside-by : (used w : ℕ) → kindOf w ≡ 2 → startOf w + lengthOf w ≤ used → reachesBeyond used w ≡ false
 unfolding reachesBeyond
 inside-by used w e h = rw (eq-eqb (kindOf w) 2 e) (le-ltb used (startOf w + lengthOf w) h)
@@ -82,7 +83,7 @@ int-never used w p e =
 pub well-formed : (used w p : ℕ) → cellStop used w p ≡ never → WellFormed used w
 well-formed used w p h = let q = never-stops used w p h in stop-never used w 0 (q .0) (q .1)
 
--- there is a text that a cell lies inside of, so an answer that is told for every such text is told once
+-- there is a text that a cell lies inside of
 some-text : (v : ValueRef) → (t : List ℕ) × Inside (length t) v
 unfolding Inside
 some-text Null = ([], tt)
@@ -90,6 +91,7 @@ some-text (Int number) = ([], tt)
 some-text (Str start size) = (replicate (start + size) 0, rw length-replicate (omega arith))
 some-text Binary = ([], tt)
 
+-- so an answer that is told for every such text is told once
 pub told-once : {A : Type 0} (v : ValueRef) (f : List ℕ → A) (r s : A)
     → ((t : List ℕ) → Inside (length t) v → r ≡ f t) → ((t : List ℕ) → Inside (length t) v → s ≡ f t) → r ≡ s
 told-once v f r s g h = let t = some-text v in g (t .0) (t .1) ∙ sym (h (t .0) (t .1))

@@ -95,13 +95,14 @@ module _ (w : ℕ) (h : isCell w ≡ true) where
           let b = eqb-false (kindOf w) 3 g in
           rw (ref-null w i s b) (sym (null-word (four-kinds i s b)))
 
--- a cell is the cell of its word, where its parts have the sizes that the code gives them
+-- a cell whose parts have the sizes that the code gives them
 unfoldable pub Sized : ValueRef → Type 0
 Sized Null = Unit {0}
 Sized (Int number) = SFits w32 number
 Sized (Str start length) = (start < 2 ^ 32) × (length < 65536)
 Sized Binary = Unit {0}
 
+-- such a cell is the cell of its word
 pub ref-back : (r : ValueRef) → Sized r → refOf (wordOf r) ≡ r
 unfolding wordOf Sized
 ref-back Null h = ref-null 0 (λ e. omega arith) (λ e. omega arith) (λ e. omega arith)

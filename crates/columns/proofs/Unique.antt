@@ -10,6 +10,7 @@ numbered : Where → Found
 numbered nowhere = Nothing
 numbered (found n) = At (record { 0 = n })
 
+-- two answers of the search that tell the same are the same
 pub one-column : (a b : Found) → foundOf a ≡ foundOf b → a ≡ b
 unfolding numbered
 one-column (At m) (At n) e = ap numbered e

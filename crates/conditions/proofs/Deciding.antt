@@ -9,6 +9,7 @@ use Rattle.operators.specs.declared.Rules.{Rules}
 use Rattle.operators.proofs.Holding.{Int32, Holds, holds-binary, holds-truth}
 use Rattle.conditions.specs.Ast.{twoSided}
 
+-- what a two-sided operator gives of values whose Ints have 32 bits, a cell can hold
 pub holds-two-sided : (R : Rules) (op : ℕ) (v w : Value) → Int32 v → Int32 w → Holds (R .limit) (twoSided R op v w)
 unfolding twoSided
 holds-two-sided R op v w h k = go (ltb op 47)

@@ -45,6 +45,7 @@ handed-on t top room top′ room′ TooLong o f h s = rw s
 
 -- ---- more room
 
+-- what an answer says of a higher top, it says of a lower one whose room reaches as far
 pub says-more : (t : List ℕ) (top u room more : ℕ) (r : Answer) (o : Outcome) → top ≤ u → u + room ≤ top + more → Says t u room r o → Says t top more r o
 says-more t top u room more (Gave w v) o l h s = (s .0, s .1, omega (arith, s .2), omega (arith, s .3))
 says-more t top u room more Overflow o l h s = s
@@ -125,6 +126,7 @@ value-take m t (Int z) h = refl
 value-take m t (Str s n) h = ap str (piece-take m s n t h)
 value-take m t Binary h = refl
 
+-- a well-formed cell means what it meant before the text grew above it
 pub value-more : (t u : ℕ) (x y : List ℕ) (w : ℕ) → t ≤ u → WellFormed t w → take t y ≡ take t x → valueOf (take u y) w ≡ valueOf (take t x) w
 value-more t u x y w l h e =
     value-take u y (refOf w) (well-inside u w (inside-more t u w l h)) ∙ sym (value-take t y (refOf w) (well-inside t w h)) ∙ ap (λ z. valueOf z w) e

@@ -17,10 +17,12 @@ row-at : (base row : List ℕ) (c : ℕ) → getD (rowOf base row) c null ≡ va
 unfolding rowOf
 row-at base row c = ap (getD (rowOf base row) c) (sym (value-null base)) ∙ List·getD-map (λ (w : ℕ). valueOf base w) row c 0
 
+-- a sound leaf's column number is below the width
 pub column-below : (used n w : ℕ) → w / 2 ^ 56 ≡ 4 → LeafSound used n w → w % 2 ^ 56 < n
 unfolding LeafSound
 column-below used n w e s = rw (eq-eqb (w / 2 ^ 56) 4 e) at s
 
+-- the cell of a sound column is the row's
 pub leaf-column : (used w : ℕ) (row : List ℕ) (r : ℕ) → w / 2 ^ 56 ≡ 4 → LeafSound used (length row) w → RowSound used row → r ≡ getD row (w % 2 ^ 56) 0 → LeafIs used w row r
 unfolding eval leafOf
 leaf-column used w row r e s rs q =
@@ -30,6 +32,7 @@ leaf-column used w row r e s rs q =
       within = rw q (rs .cells (w % 2 ^ 56) (column-below used (length row) w e s));
     }
 
+-- the cell of a sound literal is its own word
 pub leaf-literal : (used w : ℕ) (row : List ℕ) (r : ℕ) → (w / 2 ^ 56 ≡ 4 → ⊥) → LeafSound used (length row) w → r ≡ w → LeafIs used w row r
 unfolding eval leafOf LeafSound
 leaf-literal used w row r e s q = go (eqb (w / 2 ^ 56) 3) refl (rw (ne-eqb (w / 2 ^ 56) 4 e) at s)

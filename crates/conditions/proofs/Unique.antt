@@ -34,6 +34,7 @@ one-decision op left r s stored h f g = f stored h ∙ sym (g stored h)
 
 -- ---- evaluate
 
+-- where the node is a leaf, the two words are equal
 abbrev pub SameLeaf : Node → ℕ → ℕ → Type 0
 SameLeaf (Leaf x) w w′ = w ≡ w′
 SameLeaf (One op) w w′ = Unit {0}

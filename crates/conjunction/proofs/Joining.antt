@@ -16,6 +16,7 @@ use Rattle.forms.specs.Form.{parsed, formStop}
 use Rattle.conjunction.specs.With.{conjunction, eachStop, withStop, WithIs}
 use Rattle.conjunction.proofs.Stopping.{counted-zero}
 
+-- a conjunction has at most one byte more than the two conditions
 pub conjunction-long : (old new : List ℕ) → length (conjunction old new) ≤ length old + length new + 1
 conjunction-long [] new = omega arith
 conjunction-long (b ∷ old) new = simp (length-append, length-append) (omega arith)
@@ -39,6 +40,7 @@ module _ (old new d e f : List ℕ) (p q : ℕ) (first : Wrote d 0 old p e) (sec
 pub wrote-whole : {d s : List ℕ} {p : ℕ} {e : List ℕ} → Wrote d 0 s p e → take p e ≡ s
 wrote-whole w = wrote-front w
 
+-- and the front reaches to where the writing ended
 pub front-long : {d s : List ℕ} {p : ℕ} {e : List ℕ} → Wrote d 0 s p e → p ≡ length (take p e)
 front-long {d} {s} {p} {e} w = sym (length-take-le p e (omega (arith, w .room, w .place, wrote-length w)))
 

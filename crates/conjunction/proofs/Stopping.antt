@@ -21,6 +21,7 @@ use Rattle.forms.specs.declared.Scanned.the-variants.{Table, Denied}
 use Rattle.postfix.proofs.Lengths.{parsed-length, parsed-place}
 use Rattle.conjunction.specs.With.{oldStop, eachStop}
 
+-- a stop counted from 0 is as it was
 pub counted-zero : (s : Stop) → countedFrom 0 s ≡ s
 counted-zero never = refl
 counted-zero (stop number place) = ap (stop number) (zero-add place)

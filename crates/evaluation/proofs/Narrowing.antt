@@ -26,6 +26,7 @@ Narrow width (leaf w) = cond (eqb (w / 2 ^ 56) 4) (w % 2 ^ 56 < width) (cond (eq
 Narrow width (unary op a) = Narrow width a
 Narrow width (binary op a b) = Narrow width a × Narrow width b
 
+-- the same of every tree of a stack
 unfoldable pub AllNarrow : ℕ → List (Tree ℕ) → Type 0
 AllNarrow width [] = Unit {0}
 AllNarrow width (t ∷ s) = Narrow width t × AllNarrow width s

@@ -18,14 +18,17 @@ use Rattle.forms.specs.declared.Scanned.the-variants.{Table, Denied}
 use Rattle.forms.specs.Number.{numbersStop}
 use Rattle.evaluation.specs.Evaluation.{isRowLength, stops, PreparedIs}
 
+-- no cells are no row
 pub row-short : (n : ℕ) → n < 1 → isRowLength n ≡ false
 unfolding isRowLength
 row-short n h = rw (lt-leb 1 n h)
 
+-- more than 32 cells are no row
 pub row-long : (n : ℕ) → 1 ≤ n → 32 < n → isRowLength n ≡ false
 unfolding isRowLength
 row-long n h k = rw (le-leb 1 n h, lt-leb n 32 k)
 
+-- 1 to 32 cells are a row
 pub row-right : (n : ℕ) → 1 ≤ n → n ≤ 32 → isRowLength n ≡ true
 unfolding isRowLength
 row-right n h k = rw (le-leb 1 n h, le-leb n 32 k)

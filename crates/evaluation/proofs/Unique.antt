@@ -25,6 +25,7 @@ pub record Alike (b : List ℕ) (used : ℕ) (after after′ : List ℕ) (w w′
   pub exact : isStr (refOf w) ≡ false → w ≡ w′
   pub leaf : (t : Tree ℕ) → parsed Bound used b ≡ tree t → size t ≡ 1 → w ≡ w′
 
+-- two answers: alike cells, or the same refusal
 abbrev pub Same : List ℕ → ℕ → List ℕ → List ℕ → Evaluated → Evaluated → Type 0
 Same b used after after′ (Cell w) (Cell w′) = Alike b used after after′ w w′
 Same b used after after′ (Cell w) (Refused s) = ⊥

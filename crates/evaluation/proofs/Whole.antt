@@ -111,6 +111,7 @@ answerOf Overflow = Refused (Refusal.Overflow 0)
 answerOf ShiftAmount = Refused (Refusal.ShiftAmount 0)
 answerOf TooLong = Refused (Refusal.TooLong 0)
 
+-- a call that is stopped before evaluation is refused so, and its text stays
 pub denied : (R : Rules) (b row text : List ℕ) (used : ℕ) (r : Refusal) → stops b row (length text) used ≡ stopOf r → EvaluatedIs R b row text text used (Refused r)
 unfolding evaluation
 denied R b row text used r p = record { kept = refl; says = rw p }

@@ -41,6 +41,7 @@ use Rattle.joins.specs.Join.{rowsFrom}
 use Rattle.examples.specs.Example.{Expected, gives, stops, refuses, writes, Example, run, sameAnswer, comesOut}
 use Rattle.examples.specs.Table.{table}
 
+-- a test holds of every example in a list
 abbrev pub all : (Example → Bool) → List Example → Bool
 all p [] = true
 all p (e ∷ es) = both (p e) (all p es)

@@ -66,6 +66,7 @@ module _ (b : List ℕ) (size used output : ℕ) where
 
 -- ---- refused before folding
 
+-- a call that is stopped before folding is refused so, and its text and output stay
 pub denied : (R : Rules) (b text out : List ℕ) (used : ℕ) (r : Refusal) → foldStop b (length text) used (length out) ≡ stopOf r
     → FoldIs (folding R b (take used text) (length text) used (length out)) (take used text) text out out (Shortened.Refused r)
 unfolding folding

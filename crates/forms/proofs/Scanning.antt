@@ -20,6 +20,7 @@ use Rattle.forms.specs.declared.Step.{Step}
 use Rattle.forms.specs.declared.Step.the-variants.{Took, Refused}
 use Rattle.forms.specs.declared.Scanned.the-variants.{Table}
 
+-- the tables hold the trees of the n nodes that were read so far. The invariant of the loop over the nodes
 pub record Scanning (form : Allowed) (used : ℕ) (b nodes starts deeps : List ℕ) (n at : ℕ) : Type 0 where
   pub long : length nodes ≡ 64
   pub few : n ≤ 64
@@ -29,6 +30,7 @@ pub record Scanning (form : Allowed) (used : ℕ) (b nodes starts deeps : List �
   pub marks : Marks starts deeps n
   pub same : (s : List (Tree ℕ)) × Held used nodes starts deeps n s × (parsed form used b ≡ parse form used b (64 - n) at s)
 
+-- before the first node they hold none
 pub scan-start : (form : Allowed) (used : ℕ) (b nodes starts deeps : List ℕ) → length nodes ≡ 64 → length starts ≡ 64 → length deeps ≡ 64 → Scanning form used b nodes starts deeps 0 0
 unfolding Held
 scan-start form used b nodes starts deeps h k l = record {

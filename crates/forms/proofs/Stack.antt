@@ -50,6 +50,7 @@ denotes-set used nodes n w k (binary op a b) h d = (
   denotes-set used nodes n w (k - 1) b (omega (arith, d .3)) (d .5),
 )
 
+-- trees below an index stay held when an entry is set there
 pub held-set : (used : ℕ) (nodes starts deeps : List ℕ) (n w a e m : ℕ) (s : List (Tree ℕ)) → m ≤ n → Held used nodes starts deeps m s →
     Held used (set nodes n w) (set starts n a) (set deeps n e) m s
 unfolding Held

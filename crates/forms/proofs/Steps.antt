@@ -16,6 +16,7 @@ use Rattle.forms.specs.declared.Step.the-variants.{Took, Refused}
 use Rattle.forms.proofs.Stack.{leaf-held}
 use Rattle.forms.proofs.Words.{fine}
 
+-- an operator's step is fine as a step that goes on within the bytes
 pub fine-step : (at n next : ℕ) (b : List ℕ) (r : Step) → at < next → next ≤ length b → OperatorFine at n next r → StepFine at n b r
 fine-step at n next b (Took w a e after) l h f = (f .0, f .1, rw (f .2) l, rw (f .2) h, λ z. absurd (f .3 z))
 fine-step at n next b (Refused r) l h f = f

@@ -79,6 +79,7 @@ module _ (used at : ℕ) (b : List ℕ) (B : (i : ℕ) → getD b i 0 < 256) whe
   by-kind (suc (suc (suc (suc zero)))) l f = fine-column
   by-kind (suc (suc (suc (suc (suc m))))) l f = absurd (let z : ⊥ = omega arith in z)
 
+-- the word of a leaf of an allowed kind whose text fits is that of a leaf, and it is held
 pub fine : (form : Allowed) (used at : ℕ) (b : List ℕ) → ((i : ℕ) → getD b i 0 < 256) → (k : ℕ) → k < 16 → known form k ≡ true → textFits used b at k ≡ true
     → (nodeOf (leafWord b at k) ≡ Leaf (leafWord b at k)) × LeafHeld used (leafWord b at k)
 fine form used at b B k l h f = by-kind used at b B k (known-leaf form k h l) f

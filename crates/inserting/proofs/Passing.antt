@@ -51,6 +51,7 @@ pub record Lent (columns old new : List ℕ) (size used : ℕ) : Type 0 where
   pub old-rows : RowsSound columns used (rowsIn columns old) old
   pub new-rows : RowsSound columns used (rowsIn columns new) new
 
+-- where no check stops it, all this holds of what it was lent
 pub lent : (columns old new : List ℕ) (size used : ℕ) → lentStop columns old new size used ≡ never → Lent columns old new size used
 lent columns old new size used e =
     let r = never-both (roomStop 0 size used) _ e in

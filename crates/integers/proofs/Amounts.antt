@@ -28,6 +28,7 @@ right : (y : ℤ) → ltZ y (pos 0) ≡ false → ltZ (pos 31) y ≡ false → (
 right (pos n) e f = let l : n ≤ 31 = ltb-false 31 n f in (rw (le-leb 0 n (omega arith), le-leb n 31 l), refl, omega arith)
 right (negsuc n) e f = true-false e
 
+-- a 32-bit number shifted right fits 64 bits
 pub shr-fits : (x : ℤ) (m : ℕ) → mag x < 2 ^ 31 → SFits w64 (shrZ x m)
 shr-fits x m l = record { sfits = omega (arith, mag-shr x m) }
 

@@ -19,6 +19,7 @@ use Rattle.integers.specs.Integer.{intOf, isInt32, isZero}
 abbrev pub held : ℤ → ℤ
 held z = toZ w64 (ofZ w64 z)
 
+-- a number that fits 64 bits is held as it is
 pub held-is : (z : ℤ) → SFits w64 z → held z ≡ z
 held-is z h = toZ-ofZ h
 
@@ -26,6 +27,7 @@ held-is z h = toZ-ofZ h
 pub held-op : (f : ℤ → ℤ → ℤ) (x y : ℤ) → SFits w64 x → SFits w64 y → SFits w64 (f x y) → held (f (held x) (held y)) ≡ f x y
 held-op f x y h k l = ap held (ap₂ f (held-is x h) (held-is y k)) ∙ held-is (f x y) l
 
+-- an operation of two held numbers fits 64 bits where that of the numbers does
 pub held-fits : (f : ℤ → ℤ → ℤ) (x y : ℤ) → SFits w64 x → SFits w64 y → SFits w64 (f x y) → SFits w64 (f (held x) (held y))
 held-fits f x y h k l = rw (held-is x h, held-is y k) l
 
@@ -43,6 +45,7 @@ between : (z : ℤ) → ltZ z (negsuc 2147483647) ≡ false → ltZ (pos 2147483
 between (pos n) e f = (rw (le-leb n 2147483647 (ltb-false 2147483647 n f)), omega (arith, ltb-false 2147483647 n f))
 between (negsuc n) e f = (rw (le-leb n 2147483647 (ltb-false 2147483647 n e)), omega (arith, ltb-false 2147483647 n e))
 
+-- a number whose magnitude is below 2^31 has 32 bits
 pub small-in : (z : ℤ) → mag z < 2 ^ 31 → isInt32 z ≡ true
 small-in (pos n) h = rw (le-leb n 2147483647 (omega arith))
 small-in (negsuc n) h = rw (le-leb n 2147483647 (omega arith))
@@ -61,6 +64,7 @@ module _ (z : ℤ) (h : SFits w64 z) where
 pub mag-int : (w : ℕ) → mag (intOf w) < 2 ^ 31
 mag-int w = sfits-toZ {w = w32} {n = w % 2 ^ 32} (record { fits = omega arith }) .sfits
 
+-- so it fits 64 bits, too
 pub int-fits : (w : ℕ) → SFits w64 (intOf w)
 int-fits w = sfits-of (omega (arith, mag-int w))
 
@@ -112,16 +116,19 @@ module _ (x y : ℤ) (h : mag x < 2 ^ 31) (k : mag y < 2 ^ 31) where
   pub quotient-fits : SFits w64 (quotZ x y)
   quotient-fits = record { sfits = quotient x y h }
 
+-- the opposite of a 32-bit number fits 64 bits
 pub negative-fits : (x : ℤ) → mag x < 2 ^ 31 → SFits w64 (negℤ x)
 negative-fits x h = record { sfits = omega (arith, opposite x h) }
 
 -- ---- zero
 
+-- a 32-bit number whose 64 bits are 0 is zero
 pub zero-bits : (y : ℤ) → mag y < 2 ^ 31 → ofZ w64 y ≡ 0 → isZero y ≡ true
 zero-bits (pos zero) h e = refl
 zero-bits (pos (suc n)) h e = absurd (let z : ⊥ = omega arith in z)
 zero-bits (negsuc n) h e = absurd (let z : ⊥ = omega arith in z)
 
+-- a number whose 64 bits are not 0 is not zero
 pub nonzero-bits : (y : ℤ) → (ofZ w64 y ≡ 0 → ⊥) → isZero y ≡ false
 nonzero-bits (pos zero) n = absurd (n refl)
 nonzero-bits (pos (suc m)) n = refl

@@ -19,12 +19,14 @@ back Overflow = refl
 back ShiftAmount = refl
 back TooLong = refl
 
+-- two answers that tell the same are the same
 pub one-answer : (a b : Answer) → replyOf a ≡ replyOf b → a ≡ b
 one-answer a b e = sym (back a) ∙ ap answer e ∙ back b
 
--- what two equal outcomes give, and two equal replies
+-- two equal outcomes give the same value
 pub one-value : {v w : Value} → _≡_ {A = Outcome} (value v) (value w) → v ≡ w
 one-value e = cc
 
+-- two equal replies give the same word
 pub one-gave : {r s t u : ℕ} → _≡_ {A = Reply} (gave r t) (gave s u) → r ≡ s
 one-gave e = cc

@@ -23,11 +23,12 @@ use Rattle.keeping.specs.Table.{rowCount, tableStop}
 
 -- ---- which check stops it
 
--- the room that a condition needs
+-- an empty condition needs no room
 pub no-room : (b : List ℕ) → length b ≡ 0 → 0 ≡ roomFor b
 no-room [] e = refl
 no-room (x ∷ b) e = absurd (let z : ⊥ = omega arith in z)
 
+-- any other condition needs 32,768 bytes of room
 pub some-room : (b : List ℕ) → (length b ≡ 0 → ⊥) → 32768 ≡ roomFor b
 some-room [] n = absurd (n refl)
 some-room (x ∷ b) n = refl

@@ -32,22 +32,25 @@ flip-then Less later = refl
 flip-then Equal later = refl
 flip-then Greater later = refl
 
--- a chain whose first or second link is known, whatever the other is
+-- the first is Less and so is the order across both, whatever the second is
 pub less-any : (p q : Ordering) → q ≡ Less → Chain Less p q
 less-any Less q e = e
 less-any Equal q e = e
 less-any Greater q e = tt
 
+-- the second is Less and so is the order across both, whatever the first is
 pub any-less : (o q : Ordering) → q ≡ Less → Chain o Less q
 any-less Less q e = e
 any-less Equal q e = e
 any-less Greater q e = tt
 
+-- the first is Greater and so is the order across both, whatever the second is
 pub greater-any : (p q : Ordering) → q ≡ Greater → Chain Greater p q
 greater-any Less q e = tt
 greater-any Equal q e = e
 greater-any Greater q e = e
 
+-- the second is Greater and so is the order across both, whatever the first is
 pub any-greater : (o q : Ordering) → q ≡ Greater → Chain o Greater q
 any-greater Less q e = tt
 any-greater Equal q e = e

@@ -128,12 +128,13 @@ true-and-other t n = kept-both (λ i. isTrue (t i)) 0 n
 
 -- ---- marks
 
--- a mark for each row, and which
+-- there is a mark for each row
 pub flags-length : (t : Test) (i n : ℕ) → length (flagsFrom t i n) ≡ n
 unfolding flagsFrom
 flags-length t i zero = refl
 flags-length t i (suc n) = ap suc (flags-length t (suc i) n)
 
+-- a row's mark is 1 where its test is true, else 0
 pub flag-at : (t : Test) (i n j : ℕ) → j < n → getD (flagsFrom t i n) j 0 ≡ cond (isTrue (t (i + j))) 1 0
 unfolding flagsFrom
 flag-at t i zero j h = absurd (let z : ⊥ = omega arith in z)
@@ -197,7 +198,7 @@ words-same f g (i ∷ numbers) h = ap₂ _++_ (h i) (words-same f g numbers h)
 cell-anywhere : (used w p q : ℕ) → cellStop used w p ≡ never → cellStop used w q ≡ never
 cell-anywhere used w p q h = let s = never-stops used w p h in stop-never used w q (s .0) (s .1)
 
--- the front of sound cells, what is left of them, and so a part
+-- the front of sound cells is sound, whatever its place
 pub cells-front : (used p q n : ℕ) (ws : List ℕ) → cellsStop used p ws ≡ never → cellsStop used q (take n ws) ≡ never
 unfolding cellsStop
 cells-front used p q zero [] h = refl
@@ -207,6 +208,7 @@ cells-front used p q (suc n) (w ∷ ws) h =
     let s = never-both (cellStop used w p) (cellsStop used (suc p) ws) h in
     rw (cell-anywhere used w p q (s .0)) (cells-front used (suc p) (suc q) n ws (s .1))
 
+-- what is left of sound cells behind a front is sound
 cells-left : (used p n : ℕ) (ws : List ℕ) → cellsStop used p ws ≡ never → cellsStop used (p + n) (drop n ws) ≡ never
 unfolding cellsStop
 cells-left used p zero ws h = rw (add-zero p) h
@@ -215,6 +217,7 @@ cells-left used p (suc n) (w ∷ ws) h =
     let e : p + suc n ≡ suc p + n = omega arith in
     rw e (cells-left used (suc p) n ws (never-both (cellStop used w p) (cellsStop used (suc p) ws) h .1))
 
+-- a part of sound cells is sound, whatever its place
 pub cells-part : (used p q start size : ℕ) (ws : List ℕ) → cellsStop used p ws ≡ never → cellsStop used q (piece start size ws) ≡ never
 cells-part used p q start size ws h = cells-front used (p + start) q size (drop start ws) (cells-left used p start ws h)
 

@@ -39,6 +39,7 @@ body-short k = by (eqb k 1) (eqb k 2) (eqb k 3) (eqb k 4)
     by false false false true = omega arith
     by false false false false = omega arith
 
+-- what a form allows is a kind of node
 pub known-kind : (form : Allowed) (k : ℕ) → known form k ≡ true → isKind k ≡ true
 unfolding known
 known-kind form k h = both-true (isKind k) (allows form k) h .0

@@ -22,6 +22,7 @@ use Rattle.operators.specs.declared.Rules.{Rules}
 
 -- ---- one of four operators
 
+-- what holds of <, <=, > and >= holds of every kind from 34 to 37
 pub by-four : (P : ℕ → Type 0) → P 34 → P 35 → P 36 → P 37 → (op : ℕ) → 34 ≤ op → op < 38 → P op
 by-four P a b c d op h k = go (eqb op 34) (eqb op 35) (eqb op 36) refl refl refl
   where
@@ -62,9 +63,11 @@ module _ (t : List ℕ) (w : ℕ) (P : Value → Type 0) where
       go false false true e f g = rw (ref-binary w (eqb-true (kindOf w) 3 g)) b
       go false false false e f g = rw (ref-null w (eqb-false (kindOf w) 1 e) (eqb-false (kindOf w) 2 f) (eqb-false (kindOf w) 3 g)) n
 
+-- a word of another kind than Int means no Int
 pub not-int : (t : List ℕ) (w : ℕ) → (kindOf w ≡ 1 → ⊥) → isInt (valueOf t w) ≡ false
 not-int t w n = by-kind t w (λ v. isInt v ≡ false) (λ x k. absurd (n k)) (λ a k. refl) refl refl
 
+-- a word of another kind than text means no text
 pub not-str : (t : List ℕ) (w : ℕ) → (kindOf w ≡ 2 → ⊥) → isStr (valueOf t w) ≡ false
 not-str t w n = by-kind t w (λ v. isStr v ≡ false) (λ x k. refl) (λ a k. absurd (n k)) refl refl
 
@@ -132,6 +135,7 @@ module _ (R : Rules) (op : ℕ) where
 
 -- ---- unary operators
 
+-- negation and inversion give null of what is no Int
 pub unary-other : (R : Rules) (op : ℕ) (v : Value) → 16 ≤ op → op < 18 → isInt v ≡ false → unaryOf R op v ≡ value null
 unfolding unaryOf
 unary-other R op v h k e = go (eqb op 16) refl
@@ -148,6 +152,7 @@ unary-other R op v h k e = go (eqb op 16) refl
 
 -- ---- what leaves the text as it was
 
+-- an outcome that leaves the text as it was
 pub record Plain (t : List ℕ) (top : ℕ) (o : Outcome) : Type 0 where
   pub same : textAfter t top o ≡ t
 

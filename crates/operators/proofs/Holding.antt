@@ -41,6 +41,7 @@ abbrev Held : ℕ → Outcome → Type 0
 Held limit (value v) = Fitting limit v
 Held limit (Outcome.refused n) = Unit {0}
 
+-- an outcome that a cell can hold: a value that fits, or a refusal
 pub record Holds (limit : ℕ) (o : Outcome) : Type 0 where
   pub held : Held limit o
 
@@ -138,6 +139,7 @@ module _ (limit : ℕ) where
       holds-cond (eqb op 16) (holds-on-int _ (λ z. holds-fitted _ _) v)
       (holds-cond (eqb op 17) (holds-on-int _ (λ z. holds-bits _ (2 ^ 32 - 1 - ofZ w32 z) (omega arith)) v) (holds-flag _ _))
 
+-- a cell can hold a truth, whatever the limit is
 pub holds-truth : (limit : ℕ) (b : Bool) → Holds limit (value (fromBool b))
 holds-truth limit b = holds-flag limit b
 

@@ -54,11 +54,12 @@ pub all-columns : (list row : List ℕ) → length list ≡ 0 → row ≡ projec
 all-columns [] row e = refl
 all-columns (c ∷ list) row e = absurd (let z : ⊥ = omega arith in z)
 
--- a list that isn't empty
+-- a list that isn't empty gives the row's cells at its numbers
 pub some-columns : (list row : List ℕ) → (length list ≡ 0 → ⊥) → projected list row ≡ map (λ i. getD row i 0) list
 some-columns [] row n = absurd (n refl)
 some-columns (c ∷ list) row n = refl
 
+-- a list that isn't empty gives as many cells as it has numbers
 pub some-length : (list row : List ℕ) → (length list ≡ 0 → ⊥) → length (projected list row) ≡ length list
 some-length list row n = ap length (some-columns list row n) ∙ length-map list (λ i. getD row i 0)
 

@@ -6,6 +6,7 @@ use Rattle.refusals.specs.Told.{told}
 use Rattle.refusals.specs.Stop.{Stop, never, stop, stopOf, countedFrom}
 use Rattle.refusals.specs.declared.Refusal.{Refusal}
 
+-- a refusal's number, and its place counted on from an offset
 pub counted-as : (r : Refusal) (n from p : ℕ) → told r .number ≡ n → p ≡ told r .place → stop n (from + p) ≡ countedFrom from (stopOf r)
 counted-as r n from p e f = ap₂ (λ x y. stop x (from + y)) (sym e) f
 

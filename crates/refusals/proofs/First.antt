@@ -8,10 +8,11 @@ use Rattle.refusals.specs.declared.Refusal.{Refusal}
 use Rattle.refusals.specs.declared.Checked.{Checked}
 use Rattle.refusals.specs.declared.Checked.the-variants.{Sound, Refused}
 
--- what a check's answer tells of its stop
+-- a check that refuses has the stop of its refusal
 pub told-refused : (c : Checked) (r : Refusal) (s : Stop) → c ≡ Refused r → checkedOf c ≡ s → s ≡ stopOf r
 told-refused c r s e f = sym f ∙ ap checkedOf e
 
+-- a check that finds all sound has no stop
 pub told-sound : (c : Checked) (s : Stop) → c ≡ Sound → checkedOf c ≡ s → s ≡ never
 told-sound c s e f = sym f ∙ ap checkedOf e
 

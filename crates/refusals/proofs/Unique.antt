@@ -68,10 +68,12 @@ refusalOf : Stop → Refusal
 refusalOf never = NotACondition 0
 refusalOf (stop n p) = refusal n p
 
+-- two refusals with the same stop are the same
 pub one-refusal : (a b : Refusal) → stopOf a ≡ stopOf b → a ≡ b
 unfolding refusalOf
 one-refusal a b e = sym (back a) ∙ ap refusalOf e ∙ back b
 
+-- two answers of a check that tell the same are the same
 pub one-answer : (a b : Checked) → checkedOf a ≡ checkedOf b → a ≡ b
 one-answer Sound Sound e = refl
 one-answer Sound (Refused s) e = absurd (let z : _≡_ {A = ℕ} 0 1 = cc in omega arith)

@@ -29,11 +29,13 @@ use Rattle.replacing.proofs.Literals.{literal-one, literal-two, literal
 
 -- ---- words of trees
 
+-- a tree is a literal exactly if the kind of its root is below 3
 pub literal-root : (x : Tree ℕ) → Rooted x → isLiteral x ≡ ltb (kindOf (root x)) 3
 literal-root (leaf w) h = refl
 literal-root (unary op a) h = sym (le-ltb (op * 2 ^ 56 / 2 ^ 56) 3 (omega arith))
 literal-root (binary op a b) h = sym (le-ltb (op * 2 ^ 56 / 2 ^ 56) 3 (omega arith))
 
+-- the word of a literal is that of its root
 pub literal-word : (x : Tree ℕ) → isLiteral x ≡ true → leafWordOf x ≡ root x
 literal-word (leaf w) e = refl
 literal-word (unary op a) e = absurd (let z : _≡_ {A = ℕ} 0 1 = cc in omega arith)
@@ -44,6 +46,7 @@ held-well : (used w : ℕ) → kindOf w < 3 → LeafHeld used w → WellFormed u
 unfolding LeafHeld
 held-well used w h k = rw (ne-eqb (kindOf w) 4 (λ e. omega arith), ne-eqb (kindOf w) 3 (λ e. omega arith)) at k
 
+-- the root of a held tree is well formed where its kind is that of a literal
 pub root-well : (used : ℕ) (x : Tree ℕ) → Rooted x → kindOf (root x) < 3 → AllHeld used x → WellFormed used (root x)
 unfolding AllHeld
 root-well used (leaf w) r h k = held-well used w h k
@@ -52,6 +55,7 @@ root-well used (binary op a b) r h k = absurd (let z : ⊥ = omega arith in z)
 
 -- ---- the front of the output
 
+-- what stands before the bytes is the front of the output
 pub front-kept : (front b out : List ℕ) (end : ℕ) → end ≡ length front + length b → take end out ≡ front ++ b → front ≡ take (length front) out
 front-kept front b out end p e = sym (take-at front b (length front) refl) ∙ ap (take (length front)) (sym e) ∙ take-take (length front) end out (omega arith)
 
@@ -94,6 +98,7 @@ module _ (s text front : List ℕ) (place start : ℕ) (before after : List ℕ)
       )
   replaced-value (Outcome.refused n) w u end e b wr = absurd (let z : _≡_ {A = ℕ} 0 1 = cc in omega arith)
 
+-- an operator's refusal is told by its number and the operator's offset
 pub replaced-refused : (s : List ℕ) (place : ℕ) (o : Outcome) (n : ℕ) → Reply.refused n ≡ placed (length s) o → replaced place s o ≡ Folding.refused n place
 unfolding placed
 replaced-refused s place (value v) n e = absurd (let z : _≡_ {A = ℕ} 0 1 = cc in omega arith)
@@ -262,6 +267,7 @@ below-three w = by (ltb w 216172782113783808) refl
     by true e = sym (lt-ltb (kindOf w) 3 (omega (arith, ltb-true w 216172782113783808 e)))
     by false e = sym (le-ltb (kindOf w) 3 (omega (arith, ltb-false w 216172782113783808 e)))
 
+-- where the test holds, the operator is neither AND nor OR and both words are of literals
 pub test-true : (op left right : ℕ) → both (ltb op 47) (both (ltb (kindOf left) 3) (ltb (kindOf right) 3)) ≡ true → (op < 47) × (kindOf left < 3) × (kindOf right < 3)
 test-true op left right e =
     let p = both-true (ltb op 47) _ e in

@@ -10,6 +10,7 @@ use Rattle.cells.proofs.Stops.{told-once}
 use Rattle.values.specs.Value.{toValue}
 use Rattle.rules.specs.Rule.{isValidValue}
 
+-- is_valid_value: one answer, told of every text that the cell lies inside of
 pub one-validity : (rule : ℕ) (value : ValueRef) (r s : Bool)
     → ((t : List ℕ) → Inside (length t) value → r ≡ isValidValue rule (toValue t value))
     → ((t : List ℕ) → Inside (length t) value → s ≡ isValidValue rule (toValue t value)) → r ≡ s

@@ -72,23 +72,27 @@ pub record Question : Type 0 where
   pub out : List ℕ
   pub used : ℕ
 
--- its width, how many rows it has, and its test of a row
+-- its width
 abbrev pub widthOf : Question → ℕ
 widthOf q = columnCount (q .columns)
 
+-- how many rows it has
 abbrev pub countOf : Question → ℕ
 countOf q = rowCount (q .columns) (q .rows)
 
+-- its test of a row
 abbrev pub testFor : Question → Test
 testFor q = testOf base (q .condition) (q .used) (take (q .used) (q .text)) (q .rows) (widthOf q)
 
--- its stops in order: the table, the condition, the rows
+-- where its table stops it, which comes first
 abbrev pub TableStop : Bool → Question → Stop
 TableStop counts q = tableStop counts (q .condition) (q .columns) (q .rows) (length (q .text)) (q .used)
 
+-- where its condition stops it, after the table
 abbrev pub conditionFor : Question → Stop
 conditionFor q = conditionStop (q .used) (widthOf q) (q .condition)
 
+-- where a row stops it, after the condition
 abbrev pub rowsFor : Question → Stop
 rowsFor q = refusedFrom (testFor q) 0 (countOf q)
 
@@ -106,10 +110,11 @@ KeptIs q list marks mark count after a =
     WrittenIs (q .out) after a (shortStop (length (q .out)) (length (markedWords list (q .rows) (widthOf q) (countOf q) marks mark))) count
     (markedWords list (q .rows) (widthOf q) (countOf q) marks mark)
 
--- what the call is to answer and to write
+-- what select is to answer and to write
 abbrev pub Selects : Question → List ℕ → Written → Type 0
 Selects q after = SelectIs base (q .columns) (q .rows) (q .list) (q .condition) (take (q .used) (q .text)) (length (q .text)) (q .used) (q .out) after
 
+-- what delete is to answer and to write
 abbrev pub Deletes : Question → List ℕ → Written → Type 0
 Deletes q after = DeleteIs base (q .columns) (q .rows) (q .condition) (take (q .used) (q .text)) (length (q .text)) (q .used) (q .out) after
 

@@ -16,6 +16,7 @@ use Rattle.slices.specs.declared.Ordering.the-variants.{Less, Equal, Gre
 
 -- ---- from an index on
 
+-- the order of what is left of two texts from an index on
 abbrev pub rest : List ℕ → List ℕ → ℕ → Ordering
 rest a b i = byBytes (drop i a) (drop i b)
 
@@ -48,11 +49,13 @@ module _ (a b : List ℕ) (i : ℕ) where
 
 -- ---- equal texts
 
+-- no text comes before itself
 pub bytes-self : (l : List ℕ) → byBytes l l ≡ Equal
 unfolding byBytes
 bytes-self [] = refl
 bytes-self (a ∷ l) = rw (le-ltb a a (omega arith)) (bytes-self l)
 
+-- texts of which neither comes first are equal
 pub bytes-equal : (a b : List ℕ) → byBytes a b ≡ Equal → a ≡ b
 unfolding byBytes
 bytes-equal [] [] e = refl
@@ -65,11 +68,13 @@ bytes-equal (a ∷ s) (b ∷ t) e = go (ltb a b) (ltb b a) (ltb-false a b) (ltb-
     go false true h k r e = absurd (let z : _≡_ {A = ℕ} 0 1 = cc in omega arith)
     go false false h k r e = ap₂ _∷_ (le-antisymm (k refl) (h refl)) (r e)
 
+-- a text is the same as itself
 pub same-self : (l : List ℕ) → sameBytes l l ≡ true
 unfolding sameBytes
 same-self [] = refl
 same-self (a ∷ l) = rw (eq-eqb a a refl) (same-self l)
 
+-- texts that are the same byte by byte are equal
 pub same-eq : (a b : List ℕ) → sameBytes a b ≡ true → a ≡ b
 unfolding sameBytes
 same-eq [] [] e = refl
@@ -89,6 +94,7 @@ differ a b n = go (sameBytes a b) refl
     go true e = absurd (n (same-eq a b e))
     go false e = refl
 
+-- texts of different lengths are not the same
 pub same-length : (a b : List ℕ) → (length a ≡ length b → ⊥) → sameBytes a b ≡ false
 same-length a b n = differ a b (λ e. n (ap length e))
 
@@ -126,6 +132,7 @@ module _ (a b : List ℕ) where
         let g : drop (suc (i - 1)) a ≡ drop (suc (i - 1)) b = subst (λ k. drop k a ≡ drop k b) q f in
         drop-cons a (i - 1) 0 (omega arith) ∙ ap₂ _∷_ e g ∙ sym (drop-cons b (i - 1) 0 (omega arith))
 
+-- texts that agree from the start on are the same
 pub all-agree : (a b : List ℕ) (i : ℕ) → i ≤ 0 → drop i a ≡ drop i b → sameBytes a b ≡ true
 all-agree a b i h e =
     let q : i ≡ 0 = omega arith in

@@ -40,6 +40,7 @@ cell-passed used ws i h k =
     let q = never-stops used (getD ws i 0) 0 k in
     cells-turn used i ws i h ∙ rw (stop-never used (getD ws i 0) i (q .0) (q .1)) (ap (λ p. cellsStop used p (drop (i + 1) ws)) (sym (add-one i)))
 
+-- a row none of whose cells is refused is sound below the mark
 pub row-sound : (row text : List ℕ) (used : ℕ) → used ≤ length text → cellsStop used 0 row ≡ never → RowSound (length (take used text)) row
 row-sound row text used h c = record { cells = rw (length-take-le used text h) (cells-sound used 0 row c) }
 

@@ -37,6 +37,7 @@ pub record Reached (b row stored : List ℕ) (n done at m : ℕ) (s : List (Tree
   pub most : m ≤ n + (done + done)
   pub nodes : total s ≡ m
 
+-- the stack holds the cells of the trees that were read so far. The invariant of the loop over the nodes
 pub record Running (b row stored stack : List ℕ) (top n done at : ℕ) : Type 0 where
   pub long : length stack ≡ 16
   pub few : n ≤ 16
@@ -44,6 +45,7 @@ pub record Running (b row stored stack : List ℕ) (top n done at : ℕ) : Type 
   pub inside : at ≤ length b
   pub same : (m : ℕ) × (s : List (Tree ℕ)) × Topped stored row stack top (done + 1) n s × Reached b row stored n done at m s
 
+-- before the first node it holds none
 pub run-start : (b row stored stack : List ℕ) (top : ℕ) → length stack ≡ 16 → Running b row stored stack top 0 0 0
 unfolding Topped total
 run-start b row stored stack top h = record {

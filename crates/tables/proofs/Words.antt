@@ -28,11 +28,12 @@ words-are used left right first second =
     rw (n, z, nothing-behind (columnsStop used (length left) right), nothing-behind (cellsStop used (length left + length right + length first) second))
     (in-a-row (columnsStop used 0 left) (columnsStop used (length left) right) (orElse (cellsStop used (length left + length right) first) (cellsStop used (length left + length right + length first) second)))
 
--- a list that isn't given has no fault
+-- a list of columns that isn't given has no fault
 pub no-columns : (used place : ℕ) → columnsStop used place [] ≡ never
 unfolding columnsStop
 no-columns used place = refl
 
+-- a list of cells that isn't given has no fault
 pub no-cells : (used place : ℕ) → cellsStop used place [] ≡ never
 unfolding cellsStop
 no-cells used place = refl
@@ -55,6 +56,7 @@ pub record Counted (columns : List ℕ) : Type 0 where
   pub some : 1 ≤ columnCount columns
   pub few : columnCount columns ≤ 32
 
+-- a list of columns that is a table has so many words
 pub table-counted : (columns : List ℕ) → isTable columns ≡ true → Counted columns
 unfolding isTable
 table-counted columns e =
@@ -63,6 +65,7 @@ table-counted columns e =
     let m : length columns % 2 ≡ 0 = eqb-true (length columns % 2) 0 (a .0) in
     record { whole = omega arith; some = leb-true 1 (columnCount columns) (b .0); few = leb-true (columnCount columns) 32 (b .1) }
 
+-- an even number of words is at most 64 exactly if half of it is at most 32
 pub halves : (n : ℕ) → n % 2 ≡ 0 → leb n 64 ≡ leb (n / 2) 32
 halves n e = by (leb n 64) refl
   where

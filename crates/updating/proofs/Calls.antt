@@ -34,10 +34,11 @@ use Rattle.setting.proofs.Rows.{all-same}
 abbrev pub Updates : Question → List ℕ → Written → Type 0
 Updates q after = UpdateIs base (q .columns) (q .rows) (q .list) (q .condition) (take (q .used) (q .text)) (length (q .text)) (q .used) (q .out) after
 
--- where its table stops it, and where its sets do
+-- where its table stops it
 abbrev pub TableFor : Question → Stop
 TableFor q = TableStop (areSets (q .list)) q
 
+-- where its sets stop it
 abbrev pub SetsFor : Question → Stop
 SetsFor q = setsStop (q .used) (take (q .used) (q .text)) (q .columns) 0 (q .list)
 

@@ -7,6 +7,7 @@ use Rattle.writing.specs.declared.Written.{Written}
 use Rattle.writing.proofs.Unique.{one-writing}
 use Rattle.updating.specs.Update.{UpdateIs}
 
+-- two answers, two outputs
 pub one-update : (R : Rules) (columns rows sets condition stored : List ℕ) (size used : ℕ) (before after after′ : List ℕ) (a b : Written)
     → UpdateIs R columns rows sets condition stored size used before after a → UpdateIs R columns rows sets condition stored size used before after′ b
     → (a ≡ b) × (after ≡ after′)

@@ -23,10 +23,12 @@ use Rattle.values.proofs.Ordered.{order-equal}
 
 -- ---- by kind
 
+-- a word of kind 1 means the Int of its low 32 bits
 pub value-int : (t : List ℕ) (w : ℕ) → kindOf w ≡ 1 → valueOf t w ≡ int (toZ w32 (w % 2 ^ 32))
 unfolding toValue
 value-int t w e = rw (ref-int w e)
 
+-- a word of kind 2 means the part of the text that it points at
 pub value-str : (t : List ℕ) (w : ℕ) → kindOf w ≡ 2 → valueOf t w ≡ str (piece (startOf w) (lengthOf w) t)
 unfolding toValue
 value-str t w e = rw (ref-str w e)
@@ -43,6 +45,7 @@ unfolding order
 ints-order t a b o e f g =
     rw (value-int t a e, value-int t b f) (g ∙ ap₂ byInts (held-int (a % 2 ^ 32) (omega arith)) (held-int (b % 2 ^ 32) (omega arith)))
 
+-- two texts are equal values exactly if their bytes are the same
 pub strs-equal : (t : List ℕ) (a b : ℕ) (r : Bool) → kindOf a ≡ 2 → kindOf b ≡ 2
     → r ≡ sameBytes (piece (startOf a) (lengthOf a) t) (piece (startOf b) (lengthOf b) t) → r ≡ isEqual (order (valueOf t a) (valueOf t b))
 unfolding order

@@ -53,6 +53,7 @@ int-self : (z : ℤ) → ltZ z z ≡ false
 int-self (pos n) = le-ltb n n (omega arith)
 int-self (negsuc n) = le-ltb n n (omega arith)
 
+-- no value comes before itself
 pub order-self : (v : Value) → order v v ≡ Equal
 unfolding order
 order-self null = refl
@@ -69,6 +70,7 @@ not-less e = absurd (let z : _≡_ {A = ℕ} 0 1 = cc in omega arith)
 not-greater : {X : Type 0} → Greater ≡ Equal → X
 not-greater e = absurd (let z : _≡_ {A = ℕ} 0 1 = cc in omega arith)
 
+-- two tests that tell Equal both fail
 pub tests-equal : (s t : Bool) → byTests s t Equal ≡ Equal → (s ≡ false) × (t ≡ false)
 tests-equal true t e = not-less e
 tests-equal false true e = not-greater e
@@ -83,6 +85,7 @@ neither (negsuc a) (negsuc b) e f = ap negsuc (le-antisymm (ltb-false b a e) (lt
 int-equal : (x y : ℤ) → byInts x y ≡ Equal → x ≡ y
 int-equal x y e = let q = tests-equal (ltZ x y) (ltZ y x) e in neither x y (q .0) (q .1)
 
+-- values of which neither comes first are equal
 pub order-equal : (v w : Value) → order v w ≡ Equal → v ≡ w
 unfolding order
 order-equal null null e = refl

@@ -29,12 +29,15 @@ use Rattle.operators.proofs.ByKind.{binary-compared, binary-ints}
 use Rattle.conditions.specs.Ast.{decides, twoSided}
 use Rattle.wordwise.specs.Settled.{nothing, Settled, onBoth, GivesBoth, Ints, IsTwoSided}
 
+-- where nothing was worked out, nothing is said of the outcome
 pub unsettled : (o : Outcome) → Settled nothing o
 unsettled o = record { told = λ n. absurd (n refl) }
 
+-- a word that settles an outcome settles an equal one
 pub settled-as : (r : ℕ) (o p : Outcome) → p ≡ o → Settled r o → Settled r p
 settled-as r o p e s = rw e s
 
+-- a word that a truth is told as settles an outcome that is this truth
 pub flagged : (r : ℕ) (x : Bool) (o : Outcome) → ((top : ℕ) → gave r top ≡ placed top (value (fromBool x))) → o ≡ value (fromBool x) → Settled r o
 flagged r x o f e = record { told = λ n top. rw e (f top) }
 
@@ -62,9 +65,11 @@ module _ (f : ℤ → ℤ → ℤ) (fits : (x y : ℤ) → mag x < 2 ^ 31 → ma
   pub came : (r : ℕ) → Settled r (fitted (held (f (held x) (held y)))) → Settled r (fitted (f (intOf a) (intOf b)))
   came r s = settled-as r (fitted (held (f (held x) (held y)))) (fitted (f (intOf a) (intOf b))) (ap fitted (sym (ap₂ (λ u v. held (f (held u) (held v))) e g ∙ held-op f (intOf a) (intOf b) (int-fits a) (int-fits b) fit))) s
 
+-- held numbers that were read off words are less exactly if the Ints of the words are
 pub less-held : (a b : ℕ) (x y : ℤ) → x ≡ intOf a → y ≡ intOf b → ltZ (held x) (held y) ≡ ltZ (intOf a) (intOf b)
 less-held a b x y e g = ap₂ (λ u v. ltZ (held u) (held v)) e g ∙ ap₂ ltZ (held-is (intOf a) (int-fits a)) (held-is (intOf b) (int-fits b))
 
+-- one number is below another exactly if their order is Less
 pub less-is : (x y : ℤ) → ltZ x y ≡ isLess (byInts x y)
 less-is x y = go (ltZ x y) (ltZ y x) refl refl
   where
@@ -73,6 +78,7 @@ less-is x y = go (ltZ x y) (ltZ y x) refl refl
     go false true e f = rw (e, f)
     go false false e f = rw (e, f)
 
+-- one number is above another exactly if their order is Greater
 pub greater-is : (x y : ℤ) → ltZ y x ≡ isGreater (byInts x y)
 greater-is x y = go (ltZ x y) (ltZ y x) refl refl
   where
@@ -101,6 +107,7 @@ module _ (R : Rules) (op : ℕ) (v w : Value) where
   unfolding compared
   both-compared h = no-truth (omega arith) ∙ binary-compared R op v w h
 
+-- an operator from 38 to 46 on two words of Ints works on these Ints
 pub both-ints : (R : Rules) (op : ℕ) (t : List ℕ) (a b : ℕ) → 38 ≤ op → op < 47 → kindOf a ≡ 1 → kindOf b ≡ 1
     → onBoth R op (valueOf t a) (valueOf t b) ≡ onInts op (intOf a) (intOf b)
 both-ints R op t a b h k e f = ap₂ (onBoth R op) (value-int t a e) (value-int t b f) ∙ no-truth R op (int (intOf a)) (int (intOf b)) k ∙ binary-ints R op h (intOf a) (intOf b)
@@ -122,10 +129,11 @@ module _ (R : Rules) (v w : Value) where
   unfolding onBoth decides twoSided
   or-right r e f = rw (e, f)
 
--- a kind that is one of the operators
+-- a kind from 32 to 46 is that of a two-sided operator
 pub two-sided : (op n : ℕ) → op ≡ n → 32 ≤ n → n < 47 → IsTwoSided op
 two-sided op n e l u = record { above = omega arith; below = omega arith; known = λ x. omega arith }
 
+-- AND and OR, of kinds 48 and 49, are two-sided operators, too
 pub two-sided-truth : (op n : ℕ) → op ≡ n → 48 ≤ n → n < 50 → IsTwoSided op
 two-sided-truth op n e l u = record { above = omega arith; below = omega arith; known = λ x. omega arith }
 
@@ -199,15 +207,19 @@ module _ (n : ℕ) (h : n < 2 ^ 32) where
 
 -- ---- words that were worked out from two words
 
+-- a word worked out for one kind is worked out for an equal one
 pub given-as : (op n a b r : ℕ) → op ≡ n → GivesBoth n a b r → GivesBoth op a b r
 given-as op n a b r e g = rw e g
 
+-- where nothing was worked out, nothing is said of the two words
 pub none-given : (op a b : ℕ) → GivesBoth op a b nothing
 none-given op a b = record { settled = λ R t h k. unsettled _ }
 
+-- a word that a truth is told as, where the operator gives this truth in every text
 pub flag-given : (n a b r : ℕ) (x : Bool) → ((top : ℕ) → gave r top ≡ placed top (value (fromBool x)))
     → ((R : Rules) (t : List ℕ) → WellFormed (length t) a → WellFormed (length t) b → onBoth R n (valueOf t a) (valueOf t b) ≡ value (fromBool x)) → GivesBoth n a b r
 flag-given n a b r x f e = record { settled = λ R t h k. flagged r x _ f (e R t h k) }
 
+-- a word that settles an operator from 38 to 46 on the Ints of both words
 pub ints-given : (n a b r : ℕ) → 38 ≤ n → n < 47 → Ints a b → Settled r (onInts n (intOf a) (intOf b)) → GivesBoth n a b r
 ints-given n a b r l u I s = record { settled = λ R t h k. settled-as r _ _ (both-ints R n t a b l u (I .first) (I .second)) s }

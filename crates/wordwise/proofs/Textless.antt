@@ -18,6 +18,7 @@ use Rattle.wordwise.specs.Settled.{Settled}
 
 -- ---- operators that give no text
 
+-- an outcome that is no text
 pub record Textless (o : Outcome) : Type 0 where
   pub no : (b : List ℕ) → o ≡ value (str b) → ⊥
 
@@ -38,6 +39,7 @@ less-fitted : (z : ℤ) → Textless (fitted z)
 unfolding fitted
 less-fitted z = less-cond (isInt32 z) (less-int z) (less-refused 5)
 
+-- no operator on two Ints gives a text
 pub less-ints : (op : ℕ) (x y : ℤ) → Textless (onInts op x y)
 unfolding onInts
 less-ints op x y =
@@ -62,6 +64,7 @@ less-on-int f g (int x) = g x
 less-on-int f g (str a) = less-null
 less-on-int f g binary = less-null
 
+-- no unary operator gives a text
 pub less-unary : (R : Rules) (op : ℕ) (v : Value) → Textless (unaryOf R op v)
 unfolding unaryOf
 less-unary R op v = less-cond (eqb op 16) (less-on-int negated (λ z. less-fitted _) v) (less-cond (eqb op 17) (less-on-int inverted (λ z. less-int _) v) (less-flag _))
@@ -73,6 +76,7 @@ any-rules R S op v = refl
 
 -- ---- settled at one top, settled at every
 
+-- an outcome without a text is settled by the word that it gives at top 0
 pub settled-anywhere : (o : Outcome) → Textless o → (w u : ℕ) → gave w u ≡ placed 0 o → Settled w o
 unfolding placed
 settled-anywhere (value null) h w u e = let q : w ≡ wordOf Null = cc in record { told = λ n top. ap₂ gave q (sym (add-zero top)) }

@@ -21,6 +21,7 @@ use Rattle.conditions.specs.Ast.{decides, twoSided}
 use Rattle.conditions.proofs.Deciding.{holds-two-sided}
 use Rattle.wordwise.specs.Settled.{nothing, Settled, onBoth}
 
+-- an outcome is the value of a word, which is a well-formed cell and no text
 pub record Worth (stored : List ℕ) (r : ℕ) (o : Outcome) : Type 0 where
   pub means : o ≡ value (valueOf stored r)
   pub within : WellFormed (length stored) r
@@ -36,6 +37,7 @@ worth-cell stored c v s i e n r q =
       plain = λ k. n (sym (ap (λ w. kindOf w) q) ∙ k);
     }
 
+-- a word that settles an outcome which a cell can hold is such a word
 pub worth : (stored : List ℕ) (m r : ℕ) (o : Outcome) → Holds m o → (r ≡ nothing → ⊥) → Settled r o → Worth stored r o
 unfolding placed Sized Inside toValue wordOf
 worth stored m r (value null) h n t = let e = t .told n 0 in let q : r ≡ wordOf Null = cc in worth-cell stored Null null tt tt refl (λ k. omega arith) r q
