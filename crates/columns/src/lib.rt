@@ -7,9 +7,10 @@ ghost use Rattle.columns.specs.Column.{nameStop, columnStop, columnsStop
 use refusals::Checked;
 use refusals::Refusal;
 
-// A row's number and a column's: different things, never passed for each other.
+// A row's number: never passed for a column's.
 pub struct RowNumber(pub usize);
 
+// A column's number: never passed for a row's.
 pub struct ColumnNumber(pub usize);
 
 // What a search for a column finds.

@@ -19,6 +19,7 @@ pub enum Node {
     Two(u64, usize),
 }
 
+// The node of a word, by its kind.
 pub fn node_of(word: u64) -> Node
     ensures { λ r. ⌜ r ≡ nodeOf word ⌝ }
 {

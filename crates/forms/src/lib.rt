@@ -26,6 +26,7 @@ pub enum Scanned {
     Denied(Refusal),
 }
 
+// The larger of two numbers.
 fn larger(a: usize, b: usize) -> usize
     ensures { λ r. ⌜ r ≡ max a b ⌝ }
 {

@@ -11,6 +11,7 @@ pub enum Allowed {
     Mixed,
 }
 
+// Whether a number is a node's kind.
 fn is_kind(k: u64) -> bool
     ensures { λ r. ⌜ r ≡ isKind k ⌝ }
 {
@@ -35,6 +36,7 @@ fn is_kind(k: u64) -> bool
     k < 50
 }
 
+// Whether a form allows a kind.
 pub fn is_known(form: Allowed, k: u64) -> bool
     ensures { λ r. ⌜ r ≡ known form k ⌝ }
 {
@@ -48,6 +50,7 @@ pub fn is_known(form: Allowed, k: u64) -> bool
     }
 }
 
+// How many bytes a kind's body has.
 pub fn body_of(k: u64) -> usize
     ensures { λ r. ⌜ r ≡ bodyOf k ⌝ }
 {
@@ -66,13 +69,14 @@ pub fn body_of(k: u64) -> usize
     0
 }
 
+// A byte as a number.
 pub fn wide(b: u8) -> u64
     ensures { λ r. ⌜ (r ≡ b) × (r < 256) ⌝ }
 {
     b as u64
 }
 
-// Little-endian numbers.
+// A number of two bytes, the lower one first.
 fn two_at(b: &[u8], i: usize) -> u64
     requires { ⌜ i + 2 ≤ length (now b) ⌝ }
     ensures { λ r. ⌜ (r ≡ two (now (b .entry)) i) × (r < 65536) ⌝ }
@@ -80,6 +84,7 @@ fn two_at(b: &[u8], i: usize) -> u64
     wide(b[i]) + 256 * wide(b[i + 1])
 }
 
+// A number of four bytes likewise.
 fn four_at(b: &[u8], i: usize) -> u64
     requires { ⌜ i + 4 ≤ length (now b) ⌝ }
     ensures { λ r. ⌜ (r ≡ four (now (b .entry)) i) × (r < 2 ^ 32) ⌝ }

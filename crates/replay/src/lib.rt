@@ -45,6 +45,7 @@ pub struct Outcome {
     pub next: usize,
 }
 
+// A byte of a case as a number; 0 beyond its end.
 fn byte(case: &[u8], at: usize) -> u64
     ensures { λ r. ⌜ (r ≡ getD (now (case .entry)) at 0) × (r < 256) ⌝ }
 {

@@ -14,6 +14,7 @@ struct Operand {
     next: usize,
 }
 
+// The leaf at an offset: a literal's word, or the row's cell of that number.
 fn leaf(condition: &[u8], at: usize, row: &[u64]) -> Operand
     requires { ⌜ at ≤ length (now condition) ⌝ }
 {

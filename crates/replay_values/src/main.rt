@@ -19,6 +19,7 @@ fn agrees(checked: Checked, e: Expected) -> bool {
     }
 }
 
+// An order as the cases tell it.
 fn number_of(order: Ordering) -> u64 {
     match order {
         Ordering::Less => 0,
@@ -27,6 +28,7 @@ fn number_of(order: Ordering) -> u64 {
     }
 }
 
+// A truth value as the cases tell it.
 fn flag(boolean: bool) -> u64 {
     if boolean { 1 } else { 0 }
 }
@@ -141,6 +143,7 @@ fn found(case: &[u8]) -> bool {
     )
 }
 
+// Whether the case's call, asked again, gives what is expected.
 fn replays(case: &[u8]) -> bool {
     if case.len() < 4 {
         return false;
