@@ -20,7 +20,7 @@ use Rattle.evaluation.proofs.Whole.{joins-size}
 use Rattle.postfix.specs.Postfix.{bytesOf}
 use Rattle.postfix.proofs.Readable.{leaf-readable}
 use Rattle.postfix.proofs.Reading.{LeafReadable, Readable, parsed-readable, readable-parsed}
-use Rattle.replacing.specs.Fold.{folded, appended, fold}
+use Rattle.replacing.specs.Fold.{Folding, folded, appended, fold}
 use Rattle.replacing.specs.Walk.{Literal}
 use Rattle.folding.specs.Call.{foldStop, folding}
 use Rattle.shortening.proofs.Ways.{literalAt, Folds, same, kept-one, kept-two, value-one, value-two, fold-folds}
