@@ -1,6 +1,6 @@
 -- The number of the earlier row: 0 where a check stops, else by the order of the keys; and the row of that number. Assumes nothing.
 use mathlib.Core.Path.{_≡_, refl, sym, ap, _∙_}
-use mathlib.Core.List.{List}
+use mathlib.Core.List.{List, []}
 use Prim.Native.Nat.{ℕ}
 use lib.ListN.{length, take}
 use Rattle.refusals.specs.Stop.{Stop, never, stop, stopOf, unlessStopped}

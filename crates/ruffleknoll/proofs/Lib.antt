@@ -1,3 +1,4 @@
 -- What other crates use.
 pub mod Unique
 pub mod Fields
+pub mod InTurn
