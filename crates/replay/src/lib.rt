@@ -1,8 +1,12 @@
 // Reading recorded cases (docs/CASES.md). A part that is missing reads as 0 or empty, so that a damaged case differs and does no harm.
 ghost use mathlib.Core.Path.{_≡_};
-ghost use Prim.Native.Nat.{_+_, _*_, _≤_, _<_};
-ghost use lib.ListN.{length, getD};
+ghost use Prim.Native.Nat.{_+_, _*_, _≤_, _<_, min};
+ghost use mathlib.Core.List.{_++_};
+ghost use lib.ListN.{length, getD, take};
+ghost use Rattle.slices.specs.Bytes.{sameBytes};
+ghost use Rattle.slices.specs.Splice.{piece};
 ghost use Rattle.replay.specs.Number.{Four, Read, eightAt};
+ghost use Rattle.replay.specs.Compare.{isAnswer, isWritten, rubbishByte, rubbishWord, outputAfter, holdsText, isWord};
 use libc::STDIN_FILENO;
 use libc::STDOUT_FILENO;
 use writing::Written;
@@ -112,6 +116,7 @@ pub fn bytes(case: &[u8], at: usize) -> Field
 // The bytes of a slice.
 pub fn part(case: &[u8], field: Field) -> &[u8]
     requires { ⌜ field .start + field .count ≤ length (now case) ⌝ }
+    ensures { λ r. ⌜ now r ≡ piece (field .start) (field .count) (now (case .entry)) ⌝ }
 {
     let start = field.start;
     let end = start + field.count;
@@ -190,15 +195,25 @@ pub fn rest_of(case: &[u8], at: usize) -> Rest
 }
 
 // Whether these are the numbers expected.
-pub fn is_answer(e: Expected, number: u64, place: usize, value: usize, used: usize) -> bool {
-    number == e.number
-        && place as u64 == e.place
-        && value as u64 == e.value
-        && used as u64 == e.used
+pub fn is_answer(e: Expected, number: u64, place: usize, value: usize, used: usize) -> bool
+    ensures { λ r. ⌜ r ≡ isAnswer e number place value used ⌝ }
+{
+    if number != e.number {
+        return false;
+    }
+    if place as u64 != e.place {
+        return false;
+    }
+    if value as u64 != e.value {
+        return false;
+    }
+    used as u64 == e.used
 }
 
 // Whether an answer is the one expected, with the mark where it was.
-pub fn is_written(e: Expected, answer: Written, used: usize) -> bool {
+pub fn is_written(e: Expected, answer: Written, used: usize) -> bool
+    ensures { λ r. ⌜ r ≡ isWritten e answer used ⌝ }
+{
     match answer {
         Written::Count(n) => is_answer(e, 0, 0, n, used),
         Written::Refused(r) => is_answer(e, r.number(), r.place(), 0, used),
@@ -206,7 +221,9 @@ pub fn is_written(e: Expected, answer: Written, used: usize) -> bool {
 }
 
 // The byte of rubbish at a place.
-fn rubbish_at(at: usize, rubbish: u64) -> u8 {
+fn rubbish_at(at: usize, rubbish: u64) -> u8
+    ensures { λ r. ⌜ r ≡ rubbishByte rubbish at ⌝ }
+{
     ((at as u64 % 1000 * 7 + rubbish % 1000) % 256) as u8
 }
 
@@ -224,7 +241,9 @@ pub fn lend(text: &mut [u8], stored: &[u8], rubbish: u64)
 }
 
 // Whether an output holds the result at its start, and the rubbish that was lent after it.
-pub fn output_is(out: &[u8], result: &[u8], rubbish: u64) -> bool {
+pub fn output_is(out: &[u8], result: &[u8], rubbish: u64) -> bool
+    ensures { λ r. ⌜ r ≡ sameBytes (now (out .entry)) (outputAfter (rubbishByte rubbish) (now (result .entry)) (length (now (out .entry)))) ⌝ }
+{
     let mut i = result.len();
     if out.len() < i {
         return false;
@@ -242,7 +261,9 @@ pub fn output_is(out: &[u8], result: &[u8], rubbish: u64) -> bool {
 }
 
 // Whether two slices have the same words.
-pub fn same_words(a: &[u64], b: &[u64]) -> bool {
+pub fn same_words(a: &[u64], b: &[u64]) -> bool
+    ensures { λ r. ⌜ r ≡ sameBytes (now (a .entry)) (now (b .entry)) ⌝ }
+{
     if a.len() != b.len() {
         return false;
     }
@@ -257,7 +278,9 @@ pub fn same_words(a: &[u64], b: &[u64]) -> bool {
 }
 
 // The word of rubbish at a place.
-fn word_at(at: usize, rubbish: u64) -> u64 {
+fn word_at(at: usize, rubbish: u64) -> u64
+    ensures { λ r. ⌜ r ≡ rubbishWord rubbish at ⌝ }
+{
     at as u64 % 1000 * 7 + rubbish % 1000
 }
 
@@ -273,7 +296,9 @@ pub fn lend_words(out: &mut [u64], rubbish: u64)
 }
 
 // Whether an output of words holds the result at its start, and the rubbish that was lent after it.
-pub fn words_are(out: &[u64], result: &[u64], rubbish: u64) -> bool {
+pub fn words_are(out: &[u64], result: &[u64], rubbish: u64) -> bool
+    ensures { λ r. ⌜ r ≡ sameBytes (now (out .entry)) (outputAfter (rubbishWord rubbish) (now (result .entry)) (length (now (out .entry)))) ⌝ }
+{
     let mut i = result.len();
     if out.len() < i {
         return false;
@@ -307,26 +332,42 @@ pub fn outcome_of(case: &[u8], at: usize, out: &[u64], rubbish: u64) -> Outcome
 }
 
 // Whether a text holds the stored bytes at its start.
-pub fn keeps(text: &[u8], stored: &[u8]) -> bool {
+pub fn keeps(text: &[u8], stored: &[u8]) -> bool
+    ensures { λ r. ⌜ r ≡ sameBytes (take (length (now (stored .entry))) (now (text .entry))) (now (stored .entry)) ⌝ }
+{
     let end = stored.len();
     if text.len() < end {
         return false;
     }
-    slices::equal_bytes(&text[0..end], stored)
+    slices::equal_bytes(&text[..end], stored)
+}
+
+// The smaller of two numbers.
+fn least(a: usize, b: usize) -> usize
+    ensures { λ r. ⌜ r ≡ min a b ⌝ }
+{
+    if a < b { a } else { b }
 }
 
 // Whether a text holds the stored bytes at its start, and the new ones from there to the mark or its end.
-pub fn text_is(text: &[u8], stored: &[u8], new: &[u8], mark: usize) -> bool {
+pub fn text_is(text: &[u8], stored: &[u8], new: &[u8], mark: usize) -> bool
+    ensures { λ r. ⌜ r ≡ sameBytes (take mark (now (text .entry))) (now (stored .entry) ++ now (new .entry)) ⌝ }
+{
     let start = stored.len();
-    let end = after(text, 0, mark);
+    let end = least(mark, text.len());
     if end < start {
         return false;
     }
-    slices::equal_bytes(&text[0..start], stored) && slices::equal_bytes(&text[start..end], new)
+    if !slices::equal_bytes(&text[..start], stored) {
+        return false;
+    }
+    slices::equal_bytes(&text[start..end], new)
 }
 
 // Whether a word is the text expected, computed above the mark.
-fn holds_text(word: u64, text: &[u8], used: usize, content: &[u8]) -> bool {
+fn holds_text(word: u64, text: &[u8], used: usize, content: &[u8]) -> bool
+    ensures { λ r. ⌜ r ≡ holdsText word (now (text .entry)) used (now (content .entry)) ⌝ }
+{
     let start = (word / 65536 % 0x1_0000_0000) as usize;
     let end = start + (word % 65536) as usize;
     if word / 0x100_0000_0000_0000 != 2 {
@@ -342,7 +383,9 @@ fn holds_text(word: u64, text: &[u8], used: usize, content: &[u8]) -> bool {
 }
 
 // Whether a word is the one expected; a text that was computed is known by its content.
-pub fn is_word(e: Expected, word: u64, text: &[u8], used: usize, content: &[u8]) -> bool {
+pub fn is_word(e: Expected, word: u64, text: &[u8], used: usize, content: &[u8]) -> bool
+    ensures { λ r. ⌜ r ≡ isWord e word (now (text .entry)) used (now (content .entry)) ⌝ }
+{
     if e.number != 0 {
         return false;
     }

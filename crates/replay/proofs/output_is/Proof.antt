@@ -1,20 +1,26 @@
--- `replay::output_is` is safe and ends. Assumes nothing.
-use mathlib.Core.Path.{sym}
+-- `replay::output_is` meets its contract. The loop's invariant: what is left of the output tells whether rubbish follows the result. Assumes nothing.
+use mathlib.Core.Path.{_≡_, sym, _∙_}
 use Prim.Native.Nat.{_≤_, _-_}
-use lib.ListN.{length}
+use native.Mathlib.Omega.{arith}
+use lib.ListN.{length, drop}
 use lib.Seq.{length-take-le}
+use borrow.Author.Tests.{not-true, not-false}
 use borrow.Author.Needs.{needs}
+use Rattle.slices.specs.Bytes.{sameBytes}
+use Rattle.replay.specs.Compare.{rubbishByte, rubbishFrom, outputAfter}
+use Rattle.replay.proofs.Comparing.{output-short, output-other, output-begins, rubbish-differs, rubbish-agrees, rubbish-end}
 use Rattle.replay.proofs.output_is.Statement.{statement}
 use Rattle.replay.proofs.output_is.Tie as tie
 
 abbrev Inv-loop : tie.InvT-loop
-Inv-loop out result rubbish i₀ i = i ≤ length out
+Inv-loop out result rubbish i₀ i =
+    (i ≤ length out) × (sameBytes out (outputAfter (rubbishByte rubbish) result (length out)) ≡ sameBytes (drop i out) (rubbishFrom (rubbishByte rubbish) i (length out - i)))
 
 abbrev μ-loop : tie.MeasureT-loop
 μ-loop out result rubbish i₀ i = length out - i
 
 returns : tie.Need-returns Inv-loop μ-loop
-returns c = search needs
+returns c = sym (output-short (rubbishByte (c .before .before .before .args .rubbish)) (c .before .before .before .args .out .now) (c .before .before .before .args .result .now) (c .if1 .taken))
 
 slice-aggregate-equal-bytes : tie.Need-slice-aggregate-equal-bytes Inv-loop μ-loop
 slice-aggregate-equal-bytes c = sym (length-take-le _ _ (c .before .if1 .left))
@@ -23,10 +29,10 @@ equal-bytes-requires : tie.Need-equal-bytes-requires Inv-loop μ-loop
 equal-bytes-requires c κs = search needs
 
 returns-2 : tie.Need-returns-2 Inv-loop μ-loop
-returns-2 c = search needs
+returns-2 c = sym (output-other (rubbishByte (c .before .before .before .before .before .before .args .rubbish)) (c .before .before .before .before .before .before .args .out .now) (c .before .before .before .before .before .before .args .result .now) (sym (c .before .equal-bytes .ensures) ∙ not-true _ (c .if2 .taken)))
 
 loop-holds : tie.Need-loop-holds Inv-loop μ-loop
-loop-holds c = search needs
+loop-holds c = (c .before .before .before .if1 .left, output-begins (rubbishByte (c .before .before .before .before .before .before .args .rubbish)) (c .before .before .before .before .before .before .args .out .now) (c .before .before .before .before .before .before .args .result .now) (sym (c .before .equal-bytes .ensures) ∙ not-false _ (c .if2 .left)))
 
 shared-slice-read-if3 : tie.Need-shared-slice-read-if3 Inv-loop μ-loop
 shared-slice-read-if3 c = search needs
@@ -35,7 +41,7 @@ rubbish-at-requires : tie.Need-rubbish-at-requires Inv-loop μ-loop
 rubbish-at-requires c κs = search needs
 
 returns-3 : tie.Need-returns-3 Inv-loop μ-loop
-returns-3 c = search needs
+returns-3 c = sym (c .before .before .before .before .loop .inv .1 ∙ rubbish-differs (rubbishByte (c .before .before .before .before .before .before .before .before .before .before .before .args .rubbish)) (c .before .before .before .before .before .before .before .before .before .before .before .args .out .now) _ (c .before .before .before .loop-test .taken) (λ e. c .if3 .taken (e ∙ sym (c .before .rubbish-at .ensures))))
 
 add-i : tie.Need-add-i Inv-loop μ-loop
 add-i c = search needs
@@ -44,10 +50,10 @@ loop-less : tie.Need-loop-less Inv-loop μ-loop
 loop-less c = search needs
 
 loop-again : tie.Need-loop-again Inv-loop μ-loop
-loop-again c = search needs
+loop-again c = (omega (arith, c .before .before .before .loop-test .taken), c .before .before .before .before .loop .inv .1 ∙ rubbish-agrees (rubbishByte (c .before .before .before .before .before .before .before .before .before .before .before .args .rubbish)) (c .before .before .before .before .before .before .before .before .before .before .before .args .out .now) _ (c .before .before .before .loop-test .taken) (c .if3 .left ∙ c .before .rubbish-at .ensures))
 
 returns-4 : tie.Need-returns-4 Inv-loop μ-loop
-returns-4 c = search needs
+returns-4 c = sym (c .before .loop .inv .1 ∙ rubbish-end (rubbishByte (c .before .before .before .before .before .before .before .before .args .rubbish)) (c .before .before .before .before .before .before .before .before .args .out .now) _ (c .loop-test .left))
 
 pub output-is-spec : {M : Type 1} → statement M
 output-is-spec =
