@@ -1,4 +1,6 @@
 // What the exported calls return: one struct of four numbers for the answer of every call that gives a refusal number.
+#![tactic(auto)]
+
 ghost use Rattle.std.specs.Prelude.{◌≡◌};
 ghost use Rattle.keys.specs.Key.{earlier_of};
 ghost use Rattle.answers.specs.Answer.{refused_with, of_written, of_evaluated, of_shortened, of_joined};
@@ -15,7 +17,7 @@ use writing::Written;
 
 // The refusal's number and place, both 0 where the call was accepted; its value, 0 where it was refused; the mark after it.
 #[repr(C)]
-#[derive(Drop)]
+#[derive(Clone, Copy)]
 pub struct Answer {
     pub number: u64,
     pub place: u64,
@@ -25,7 +27,7 @@ pub struct Answer {
 
 // Where a row lies in the caller's rows, in words; both are 0 for the empty part.
 #[repr(C)]
-#[derive(Drop)]
+#[derive(Clone, Copy)]
 pub struct Part {
     pub start: u64,
     pub length: u64,

@@ -1,4 +1,6 @@
 // The call `bind`: column names give way to column numbers.
+#![tactic(auto)]
+
 ghost use Rattle.std.specs.Prelude.{◌≡◌, ℕ, length, take};
 ghost use Rattle.refusals.specs.Stop.{checked_of};
 ghost use Rattle.conditions.specs.Ast.{Tree};

@@ -1,4 +1,6 @@
 // Cells: a value in a row as one 64-bit word, kind × 2^56 + body.
+#![tactic(auto)]
+
 ghost use Rattle.std.specs.Prelude.{◌≡◌, ◌<◌, ◌^◌};
 ghost use Rattle.std.specs.Int.{w32};
 ghost use Rattle.std.proofs.Common.{to_z, of_z};
@@ -8,7 +10,7 @@ ghost use Rattle.cells.specs.Cell.{bodies_of, is_cell, reaches_beyond, cell_stop
 use refusals::{Checked, Refusal};
 
 // A cell's value, its text by start and length: value.rs's ValueRef. Every value of it is a cell of document 01.
-#[derive(Drop)]
+#[derive(Clone, Copy)]
 pub enum ValueRef {
     Null,
     Int(i32),

@@ -1,4 +1,6 @@
 // Checks that the calls share.
+#![tactic(auto)]
+
 ghost use Rattle.std.specs.Prelude.{◌≡◌, ◌+◌, ◌<◌, ◌^◌, length};
 ghost use Rattle.refusals.specs.Stop.{checked_of};
 ghost use Rattle.checks.specs.Check.{room_stop, output_stop, cells_stop};

@@ -1,4 +1,6 @@
 // A table's columns: checking their words, and finding one by its name.
+#![tactic(auto)]
+
 ghost use Rattle.std.specs.Prelude.{◌≡◌, ◌+◌, ◌<◌, ◌^◌, length};
 ghost use Rattle.refusals.specs.Stop.{checked_of, never};
 ghost use Rattle.columns.specs.Column.{name_stop, column_stop, columns_stop, column_named, found_of};
@@ -6,15 +8,15 @@ ghost use Rattle.columns.specs.Column.{name_stop, column_stop, columns_stop, col
 use refusals::{Checked, Refusal};
 
 // A row's number: never passed for a column's.
-#[derive(Drop)]
+#[derive(Clone, Copy)]
 pub struct RowNumber(pub usize);
 
 // A column's number: never passed for a row's.
-#[derive(Drop)]
+#[derive(Clone, Copy)]
 pub struct ColumnNumber(pub usize);
 
 // What a search for a column finds.
-#[derive(Drop)]
+#[derive(Clone, Copy)]
 pub enum Found {
     At(ColumnNumber),
     Nothing,

@@ -1,4 +1,6 @@
 // Conditions as a table of nodes, and their evaluation by recursion: Ast::eval of expr.rs.
+#![tactic(auto)]
+
 ghost use Rattle.std.specs.Prelude.{◌≡◌, List, ℕ, ◌<◌, ◌≤◌, length, take, get_or};
 ghost use Rattle.cells.specs.Cell.{WellFormed};
 ghost use Rattle.values.specs.Value.{value_of, to_bool};
@@ -11,7 +13,7 @@ use integers::Answer;
 use operators::Rules;
 
 // A node of the table: a leaf's word, or an operator with the index of its left operand. The right operand, or the only one, stands just before.
-#[derive(Drop)]
+#[derive(Clone, Copy)]
 pub enum Node {
     Leaf(u64),
     One(u64),

@@ -1,4 +1,6 @@
 // The call `with`: AND of an old and a new condition.
+#![tactic(auto)]
+
 ghost use Rattle.std.specs.Prelude.{◌≡◌, ◌+◌, ◌≤◌, length};
 ghost use Rattle.slices.specs.Splice.{Wrote};
 ghost use Rattle.refusals.specs.Stop.{checked_of, counted_from};

@@ -1,5 +1,7 @@
 // Values as they are printed: Display of value.rs, a text as `{:?}` quotes it. Every call puts its bytes as far as there is room and returns the place
 // after all of them.
+#![tactic(auto)]
+
 ghost use Rattle.std.specs.Prelude.{◌+◌, ◌<◌, ◌^◌, length};
 ghost use Rattle.std.specs.Int.{w32};
 ghost use Rattle.std.proofs.Common.{to_z};

@@ -1,4 +1,6 @@
 // What is wrong with the values of new rows, and with the keys of old and new ones.
+#![tactic(auto)]
+
 ghost use Rattle.std.specs.Prelude.{◌≡◌, ◌++◌, ◌*◌, ◌≤◌, length};
 ghost use Rattle.refusals.specs.Stop.{checked_of};
 ghost use Rattle.conditions.specs.Table.{RowSound};

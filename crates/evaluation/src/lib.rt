@@ -1,4 +1,6 @@
 // The call `evaluate`: a bound condition on one row.
+#![tactic(auto)]
+
 ghost use Rattle.std.specs.Prelude.{◌≡◌, ◌<◌, length};
 ghost use Rattle.refusals.specs.Stop.{checked_of};
 ghost use Rattle.operators.specs.Operator.{base};
@@ -12,7 +14,7 @@ use operators::Rules;
 use refusals::{Checked, Refusal};
 
 // A cell's word, or a refusal.
-#[derive(Drop)]
+#[derive(Clone, Copy)]
 pub enum Evaluated {
     Cell(u64),
     Refused(Refusal),

@@ -1,4 +1,6 @@
 // Folding: operators over literals give way to their values.
+#![tactic(auto)]
+
 ghost use Rattle.std.specs.Prelude.{◌≡◌, length, take};
 ghost use Rattle.operators.specs.Operator.{base};
 ghost use Rattle.folding.specs.Call.{PreparedIs, FoldIs, folding};
@@ -10,7 +12,7 @@ use refusals::{Checked, Refusal};
 use replacing::Part;
 
 // The bytes written and the new mark, or a refusal.
-#[derive(Drop)]
+#[derive(Clone, Copy)]
 pub enum Shortened {
     Bytes(usize, usize),
     Refused(Refusal),

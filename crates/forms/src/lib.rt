@@ -1,4 +1,6 @@
 // The form of a condition: one scan of its postfix bytes into the table of nodes that evaluation walks.
+#![tactic(auto)]
+
 ghost use Rattle.std.specs.Prelude.{◌≡◌, List, ℕ, ◌+◌, ◌*◌, ◌<◌, ◌≤◌, max, length, get_or};
 ghost use Rattle.conditions.specs.Ast.{Tree};
 ghost use Rattle.forms.specs.Form.{on_one, on_two, node_at, parsed};
@@ -8,7 +10,7 @@ use nodes::Allowed;
 use refusals::Refusal;
 
 // One step: a node's word, where its tree starts, its height and the next offset; or a refusal.
-#[derive(Drop)]
+#[derive(Clone, Copy)]
 pub enum Step {
     Took {
         word: u64,
@@ -20,7 +22,7 @@ pub enum Step {
 }
 
 // The number of nodes in the table, or a refusal.
-#[derive(Drop)]
+#[derive(Clone, Copy)]
 pub enum Scanned {
     Table(usize),
     Denied(Refusal),

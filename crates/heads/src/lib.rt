@@ -1,4 +1,6 @@
 // The columns of a join.
+#![tactic(auto)]
+
 ghost use Rattle.std.specs.Prelude.{◌≡◌, true, false, length, take};
 ghost use Rattle.refusals.specs.Stop.{checked_of};
 ghost use Rattle.heads.specs.Heads.{head_stop, head, HeadIs};

@@ -1,4 +1,6 @@
 // The call insert.
+#![tactic(auto)]
+
 ghost use Rattle.std.specs.Prelude.{◌≡◌, length, take};
 ghost use Rattle.refusals.specs.Stop.{checked_of};
 ghost use Rattle.slices.specs.Splice.{splice};

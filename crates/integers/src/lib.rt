@@ -1,11 +1,13 @@
 // The operators on Ints, by way of i64: expr.rs's UnOp and BinOp where its operands are Value::Int.
+#![tactic(auto)]
+
 ghost use Rattle.std.specs.Prelude.{◌≡◌, ◌<◌, ◌≤◌, ◌^◌};
 ghost use Rattle.std.specs.Int.Signed.{mag};
 ghost use Rattle.integers.specs.Outcome.{reply_of, placed};
 ghost use Rattle.integers.specs.Integer.{int_of, fitted, on_ints, negated, inverted};
 
 // A value as its cell's word, with the top of the text after it, or why there is none.
-#[derive(Drop)]
+#[derive(Clone, Copy)]
 pub enum Answer {
     Gave(u64, usize),
     Overflow,

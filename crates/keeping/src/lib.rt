@@ -1,4 +1,6 @@
 // What every call on one table looks at first, and the rows of one mark written.
+#![tactic(auto)]
+
 ghost use Rattle.std.specs.Prelude.{◌≡◌, length};
 ghost use Rattle.refusals.specs.Stop.{checked_of};
 ghost use Rattle.writing.specs.Writing.{WrittenIs};

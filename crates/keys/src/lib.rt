@@ -1,4 +1,6 @@
 // Rows compared by their keys, and the earlier of two rows.
+#![tactic(auto)]
+
 ghost use Rattle.std.specs.Prelude.{◌≡◌, cond, length};
 ghost use Rattle.refusals.specs.Stop.{checked_of};
 ghost use Rattle.slices.specs.declared.Ordering.TheVariants.{Equal};

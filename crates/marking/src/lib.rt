@@ -1,4 +1,6 @@
 // Every row of a table tested by a condition, before anything is written.
+#![tactic(auto)]
+
 ghost use Rattle.std.specs.Prelude.{◌≡◌, List, ℕ, take};
 ghost use Rattle.operators.specs.Operator.{base};
 ghost use Rattle.testing.specs.Test.{test, condition_stop, TestAsks};
@@ -10,7 +12,7 @@ use refusals::Refusal;
 use testing::Verdict;
 
 // How many rows are true, or the first refusal in row order.
-#[derive(Drop)]
+#[derive(Clone, Copy)]
 pub enum Marked {
     Rows(usize),
     Refused(Refusal),

@@ -1,4 +1,6 @@
 // The columns of a join, one side: names with their table, and rules.
+#![tactic(auto)]
+
 ghost use Rattle.std.specs.Prelude.{◌≡◌, length, take};
 ghost use Rattle.naming.specs.OneSide.{name_of, rule_of};
 ghost use Rattle.naming.specs.Side.{NameAsks, NameIs, SideAsks, SideIs};
@@ -6,14 +8,14 @@ ghost use Rattle.naming.specs.Side.{NameAsks, NameIs, SideAsks, SideIs};
 use refusals::Refusal;
 
 // The words written and the new mark, or a refusal.
-#[derive(Drop)]
+#[derive(Clone, Copy)]
 pub enum Joined {
     Words(usize, usize),
     Refused(Refusal),
 }
 
 // A column's name word in the joined table and the new top, or that the name would have over 255 bytes.
-#[derive(Drop)]
+#[derive(Clone, Copy)]
 pub enum Name {
     Word(u64, usize),
     TooLong,

@@ -1,9 +1,11 @@
 // A node of a condition, read off the postfix bytes: its kind, its body, its word and its text.
+#![tactic(auto)]
+
 ghost use Rattle.std.specs.Prelude.{◌≡◌, ◌+◌, ◌<◌, ◌≤◌, ◌^◌, length};
 ghost use Rattle.nodes.specs.Kind.{is_kind, known, body_of, leaf_word, text_fits, two, four};
 
 // Which column nodes a condition may have.
-#[derive(Drop)]
+#[derive(Clone, Copy)]
 pub enum Allowed {
     Named,
     Bound,

@@ -1,4 +1,6 @@
 // Binding, one leaf: a column name gives way to the number of the first column of that name.
+#![tactic(auto)]
+
 ghost use Rattle.conditions.specs.Ast.{leaf};
 ghost use Rattle.numbering.specs.Asked.{LeafAsks};
 ghost use Rattle.numbering.specs.Walk.{Binds};
@@ -7,7 +9,7 @@ use columns::Found;
 use refusals::Refusal;
 
 // A part of the condition bound: the place after its bytes and the offset after the part itself; or a refusal.
-#[derive(Drop)]
+#[derive(Clone, Copy)]
 pub enum Part {
     Bound(usize, usize),
     Refused(Refusal),

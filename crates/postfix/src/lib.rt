@@ -1,4 +1,6 @@
 // The postfix bytes of a condition, written node by node.
+#![tactic(auto)]
+
 ghost use Rattle.std.specs.Prelude.{◌+◌, ◌≤◌, ◌++◌, length};
 ghost use Rattle.slices.specs.Splice.{Wrote};
 ghost use Rattle.cells.specs.Cell.{start_of, length_of};

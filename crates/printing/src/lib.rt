@@ -1,4 +1,6 @@
 // The call `print`: a named condition by precedence, Ast::format_with_precedence of expr.rs.
+#![tactic(auto)]
+
 ghost use Rattle.std.specs.Prelude.{◌≡◌, ℕ, ◌+◌, ◌<◌, length, take};
 ghost use Rattle.refusals.specs.Stop.{checked_of};
 ghost use Rattle.conditions.specs.Ast.{Tree};

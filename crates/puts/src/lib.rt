@@ -1,4 +1,6 @@
 // Bytes put one after another, as far as there is room: the same calls count, given an empty output, and write.
+#![tactic(auto)]
+
 ghost use Rattle.std.specs.Prelude.{cond, [], ◌∷◌, ◌+◌, ◌<◌, ◌^◌, length};
 ghost use Rattle.puts.specs.Put.{Puts};
 

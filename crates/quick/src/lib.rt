@@ -1,5 +1,7 @@
 // The value of a condition on a row as one word: what most rows need. `conditions::evaluate` hands its answers on through memory; a word
 // comes back in a register. What this way doesn't tell (refusals, joined texts) the general one is asked for.
+#![tactic(auto)]
+
 ghost use Rattle.std.specs.Prelude.{◌≡◌, get_or};
 ghost use Rattle.conditions.specs.Table.{node_of, Asks, Answers, Lies};
 ghost use Rattle.wordwise.specs.Settled.{nothing};

@@ -1,4 +1,6 @@
 // A text as `{:?}` quotes it. Every call puts its bytes as far as there is room and returns the place after all of them.
+#![tactic(auto)]
+
 ghost use Rattle.std.specs.Prelude.{◌≡◌, cond, [], ◌∷◌, ◌++◌, ◌+◌, ◌*◌, ◌<◌, ◌^◌, length, eqb};
 ghost use Rattle.puts.specs.Put.{Puts};
 ghost use Rattle.quoting.specs.Quote.{hex_digit, hex, is_control, escaped, quoted, has_high};

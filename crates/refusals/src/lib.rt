@@ -1,10 +1,12 @@
 // Refusals: one named case for each number of document 01, each with its place.
+#![tactic(auto)]
+
 ghost use Rattle.std.specs.Prelude.{◌≡◌, ◌+◌, ◌<◌, ◌^◌};
 ghost use Rattle.refusals.specs.Told.{told};
 ghost use Rattle.refusals.specs.Stop.{stop_of, counted_from};
 
 // Named after what was wrong; the comment gives document 01's number.
-#[derive(Drop)]
+#[derive(Clone, Copy)]
 pub enum Refusal {
     // 1: unknown or forbidden kind, body cut short, operand missing, not exactly one result
     NotACondition(usize),
@@ -39,7 +41,7 @@ pub enum Refusal {
 }
 
 // What a check finds: nothing wrong, or the refusal.
-#[derive(Drop)]
+#[derive(Clone, Copy)]
 pub enum Checked {
     Sound,
     Refused(Refusal),

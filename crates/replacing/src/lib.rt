@@ -1,4 +1,6 @@
 // Folding, one operator: it gives way to its value over literals, and is kept over anything else.
+#![tactic(auto)]
+
 ghost use Rattle.std.specs.Prelude.{◌≡◌, List, ℕ, ◌+◌, ◌<◌, ◌≤◌, length, take, ltb};
 ghost use Rattle.slices.specs.Bytes.{both};
 ghost use Rattle.cells.specs.Cell.{kind_of};
@@ -12,7 +14,7 @@ use operators::Rules;
 use refusals::Refusal;
 
 // A part of the condition folded: its last node's word, the place after its bytes, the new top, and the offset after the part itself; or a refusal.
-#[derive(Drop)]
+#[derive(Clone, Copy)]
 pub enum Part {
     Folded(u64, usize, usize, usize),
     Refused(Refusal),

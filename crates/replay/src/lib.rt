@@ -1,4 +1,6 @@
 // Reading recorded cases (docs/CASES.md). A part that is missing reads as 0 or empty, so that a damaged case differs and does no harm.
+#![tactic(auto)]
+
 ghost use Rattle.std.specs.Prelude.{◌≡◌, ◌+◌, ◌*◌, ◌≤◌, ◌<◌, min, ◌++◌, length, get_or, take};
 ghost use Rattle.slices.specs.Bytes.{same_bytes};
 ghost use Rattle.slices.specs.Splice.{piece};
@@ -9,7 +11,7 @@ use libc::{STDIN_FILENO, STDOUT_FILENO};
 use writing::Written;
 
 // A slice of a case: its first byte, how many elements it has, and where the next part starts.
-#[derive(Drop)]
+#[derive(Clone, Copy)]
 pub struct Field {
     pub start: usize,
     pub count: usize,
@@ -17,7 +19,7 @@ pub struct Field {
 }
 
 // A text buffer of a case: its length, its mark, its stored bytes.
-#[derive(Drop)]
+#[derive(Clone, Copy)]
 pub struct Text {
     pub size: usize,
     pub used: usize,
@@ -25,7 +27,7 @@ pub struct Text {
 }
 
 // The numbers of an answer.
-#[derive(Drop)]
+#[derive(Clone, Copy)]
 pub struct Expected {
     pub number: u64,
     pub place: u64,
@@ -34,7 +36,7 @@ pub struct Expected {
 }
 
 // A case from its text on, where an output of bytes follows it: the text, the output's length, the answer's numbers, the written bytes, the new text.
-#[derive(Drop)]
+#[derive(Clone, Copy)]
 pub struct Rest {
     pub lent: Text,
     pub room: usize,
@@ -44,7 +46,7 @@ pub struct Rest {
 }
 
 // What a case has of a call that writes words: the answer's numbers, whether the output is as it should be, and where the part after its words starts.
-#[derive(Drop)]
+#[derive(Clone, Copy)]
 pub struct Outcome {
     pub expected: Expected,
     pub written: bool,

@@ -1,4 +1,6 @@
 // Replays the recorded cases of `bind` (docs/CASES.md, call 20) from standard input.
+#![tactic(auto)]
+
 ghost use Rattle.std.specs.Prelude.{◌≤◌};
 
 use replay::Expected;

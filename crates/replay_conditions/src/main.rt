@@ -1,4 +1,6 @@
 // Replays the recorded cases of evaluation (docs/CASES.md, call 18) from standard input.
+#![tactic(auto)]
+
 ghost use Rattle.std.specs.Prelude.{◌≡◌, ◌≤◌, length};
 
 use evaluation::Evaluated;

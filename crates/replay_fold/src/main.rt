@@ -1,4 +1,6 @@
 // Replays the recorded cases of `fold` (docs/CASES.md, call 19) from standard input.
+#![tactic(auto)]
+
 ghost use Rattle.std.specs.Prelude.{◌≤◌};
 
 use folding::Shortened;

@@ -1,4 +1,6 @@
 // Replays the recorded cases of insert (docs/CASES.md, call 30) from standard input.
+#![tactic(auto)]
+
 ghost use Rattle.std.specs.Prelude.{◌+◌, ◌≤◌, length};
 
 use replay::Text;

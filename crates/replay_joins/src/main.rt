@@ -1,4 +1,6 @@
 // Replays the recorded cases of the joins and of a select over a join (docs/CASES.md, calls 26, 27, 31 and 32) from standard input.
+#![tactic(auto)]
+
 ghost use Rattle.std.specs.Prelude.{◌≡◌, ◌+◌, ◌≤◌, length};
 
 use naming::Joined;
@@ -8,7 +10,7 @@ use writing::Written;
 
 // A call: whether its join is a left one, whether a select follows, and where its parts start in the case. Only a select has names, a list and a
 // condition of its own.
-#[derive(Drop)]
+#[derive(Clone, Copy)]
 struct Call {
     outer: bool,
     selects: bool,

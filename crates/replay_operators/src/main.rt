@@ -1,5 +1,7 @@
 // Replays the recorded cases of the operators (docs/CASES.md, call 18 on conditions of one operator) from standard input.
 // The operands are leaves, so the operators are called on their words directly.
+#![tactic(auto)]
+
 ghost use Rattle.std.specs.Prelude.{◌≡◌, ◌≤◌, length};
 
 use integers::Answer;
@@ -8,7 +10,7 @@ use refusals::Checked;
 use replay::Expected;
 
 // A leaf's word, and where the next node starts; no leaf starts beyond the end.
-#[derive(Drop)]
+#[derive(Clone, Copy)]
 struct Operand {
     word: u64,
     next: usize,

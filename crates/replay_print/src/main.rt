@@ -1,4 +1,6 @@
 // Replays the recorded cases of printing (docs/CASES.md, calls 22 and 8) from standard input.
+#![tactic(auto)]
+
 ghost use Rattle.std.specs.Prelude.{◌≤◌, length};
 ghost use Rattle.cells.specs.Cell.{WellFormed};
 

@@ -1,4 +1,6 @@
 // Replays the recorded cases of select, delete and update (docs/CASES.md, calls 25, 28 and 29) from standard input.
+#![tactic(auto)]
+
 ghost use Rattle.std.specs.Prelude.{◌+◌, ◌≤◌, length};
 
 use replay::Text;

@@ -1,4 +1,6 @@
 // Replays the recorded cases of tables (docs/CASES.md, calls 16, 17, 23 and 24) from standard input.
+#![tactic(auto)]
+
 ghost use Rattle.std.specs.Prelude.{◌≡◌, ◌+◌, ◌≤◌, length};
 
 use columns::RowNumber;

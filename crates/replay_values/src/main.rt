@@ -1,4 +1,6 @@
 // Replays the recorded cases of values and columns (docs/CASES.md, calls 1 to 7) from standard input.
+#![tactic(auto)]
+
 ghost use Rattle.std.specs.Prelude.{◌≤◌};
 
 use cells::ValueRef;

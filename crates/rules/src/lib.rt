@@ -1,4 +1,6 @@
 // A column's rule: the second of its two words, as in column.rs and document 01's added rules.
+#![tactic(auto)]
+
 ghost use Rattle.std.specs.Prelude.{◌≡◌, List, ℕ, length};
 ghost use Rattle.cells.specs.Cell.{Inside};
 ghost use Rattle.values.specs.Value.{to_value};

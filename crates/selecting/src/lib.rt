@@ -1,4 +1,6 @@
 // The calls select and delete.
+#![tactic(auto)]
+
 ghost use Rattle.std.specs.Prelude.{◌≡◌, length, take};
 ghost use Rattle.operators.specs.Operator.{base};
 ghost use Rattle.selecting.specs.Select.{SelectIs, DeleteIs};

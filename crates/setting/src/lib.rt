@@ -1,4 +1,6 @@
 // The sets of an update: checked, and applied to a row.
+#![tactic(auto)]
+
 ghost use Rattle.std.specs.Prelude.{◌≡◌, List, ℕ, ◌+◌, ◌*◌, ◌≤◌, length};
 ghost use Rattle.slices.specs.Splice.{Wrote};
 ghost use Rattle.refusals.specs.Stop.{checked_of};

@@ -1,4 +1,6 @@
 // Folding over the table of nodes, operands first.
+#![tactic(auto)]
+
 ghost use Rattle.std.specs.Prelude.{ℕ, ◌+◌, take};
 ghost use Rattle.conditions.specs.Ast.{Tree};
 ghost use Rattle.postfix.specs.Postfix.{width};

@@ -1,4 +1,6 @@
 // How an operator is printed, and how tightly it binds: BinOp of expr.rs.
+#![tactic(auto)]
+
 ghost use Rattle.std.specs.Prelude.{◌≡◌, ◌+◌, ◌/◌, ◌%◌, ◌<◌, ◌≤◌, ◌^◌};
 ghost use Rattle.slices.specs.Splice.{piece};
 ghost use Rattle.puts.specs.Put.{Puts};

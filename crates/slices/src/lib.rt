@@ -1,10 +1,12 @@
 // Lent bytes and words: writing a part of a slice, and comparing two texts byte by byte.
+#![tactic(auto)]
+
 ghost use Rattle.std.specs.Prelude.{◌≡◌, ◌+◌, ◌≤◌, length};
 ghost use Rattle.slices.specs.Splice.{piece, Wrote};
 ghost use Rattle.slices.specs.Bytes.{by_bytes, same_bytes};
 
 // How two values stand to each other, as Rust's std::cmp::Ordering.
-#[derive(Drop)]
+#[derive(Clone, Copy)]
 pub enum Ordering {
     Less,
     Equal,

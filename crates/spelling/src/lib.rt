@@ -1,4 +1,6 @@
 // Printing over the table of nodes: a condition by precedence. Every call puts its bytes as far as there is room and returns the place after all of them.
+#![tactic(auto)]
+
 ghost use Rattle.std.specs.Prelude.{ℕ, ◌+◌, ◌<◌, ◌^◌, length};
 ghost use Rattle.conditions.specs.Ast.{Tree, map_tree};
 ghost use Rattle.conditions.specs.Table.{leaf_of};

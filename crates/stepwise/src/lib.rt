@@ -1,5 +1,7 @@
 // The operators of `wordwise` for the one pass of `straight` alone: what has a single caller is compiled into its loop, and a call
 // for each operator costs a quarter more (docs/SPEED.md).
+#![tactic(auto)]
+
 ghost use Rattle.std.specs.Prelude.{◌≡◌, ◌<◌, ◌≤◌, length};
 ghost use Rattle.cells.specs.Cell.{WellFormed};
 ghost use Rattle.values.specs.Value.{value_of};

@@ -1,5 +1,7 @@
 // `evaluate` in one pass: the bytes of a bound condition are checked and worked out at once, on a stack of words.
 // It gives `NOTHING` wherever anything is refused or isn't simple; then nothing is said.
+#![tactic(auto)]
+
 ghost use Rattle.std.specs.Prelude.{◌≡◌, true, ◌+◌, ◌<◌, length, get_or};
 ghost use Rattle.refusals.specs.Stop.{never};
 ghost use Rattle.cells.specs.Cell.{WellFormed};

@@ -1,4 +1,6 @@
 // What every call that is lent tables checks of them, and one row of a table.
+#![tactic(auto)]
+
 ghost use Rattle.std.specs.Prelude.{◌≡◌, [], ◌∷◌, ◌+◌, ◌<◌, ◌≤◌, ◌^◌, length};
 ghost use Rattle.refusals.specs.Stop.{checked_of};
 ghost use Rattle.tables.specs.Table.{is_table, count_stop, are_rows, words_stop, row_at};

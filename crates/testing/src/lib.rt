@@ -1,4 +1,6 @@
 // A condition as a test of rows.
+#![tactic(auto)]
+
 ghost use Rattle.std.specs.Prelude.{◌≡◌, List, ℕ, length, take};
 ghost use Rattle.cells.specs.Cell.{WellFormed};
 ghost use Rattle.values.specs.Value.{value_of, to_bool};
@@ -12,7 +14,7 @@ use operators::Rules;
 use refusals::{Checked, Refusal};
 
 // Whether a condition holds of a row, or a refusal with the row's place.
-#[derive(Drop)]
+#[derive(Clone, Copy)]
 pub enum Verdict {
     Yes,
     No,

@@ -1,4 +1,6 @@
 // The call update.
+#![tactic(auto)]
+
 ghost use Rattle.std.specs.Prelude.{◌≡◌, ◌+◌, ◌*◌, ◌≤◌, length, take};
 ghost use Rattle.slices.specs.Splice.{Wrote};
 ghost use Rattle.writing.specs.Writing.{WrittenIs};

@@ -1,5 +1,7 @@
 // Values: truth, order and equality of cells by their content in the stored text, as in value.rs.
 // A function is lent the stored text alone, so that nothing can depend on bytes at or above the mark.
+#![tactic(auto)]
+
 ghost use Rattle.std.specs.Prelude.{◌≡◌, List, ℕ, length};
 ghost use Rattle.cells.specs.Cell.{WellFormed, Inside};
 ghost use Rattle.values.specs.Value.{to_value, value_of, to_bool, from_bool};

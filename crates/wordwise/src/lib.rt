@@ -1,5 +1,7 @@
 // Operators on the words of cells, where the result is one word and no text is written: `operators` hands its answers on through
 // memory, a word comes back in a register.
+#![tactic(auto)]
+
 ghost use Rattle.std.specs.Prelude.{◌≡◌, List, ℕ, ◌<◌, ◌≤◌, length};
 ghost use Rattle.cells.specs.Cell.{WellFormed};
 ghost use Rattle.values.specs.Value.{value_of};

@@ -1,4 +1,6 @@
 // What calls that write have in common: their answer, and a result written at the start of the output.
+#![tactic(auto)]
+
 ghost use Rattle.std.specs.Prelude.{◌≤◌, length};
 ghost use Rattle.refusals.specs.Stop.{never};
 ghost use Rattle.writing.specs.Writing.{WrittenIs};
@@ -6,7 +8,7 @@ ghost use Rattle.writing.specs.Writing.{WrittenIs};
 use refusals::Refusal;
 
 // How much was written, or a refusal.
-#[derive(Drop)]
+#[derive(Clone, Copy)]
 pub enum Written {
     Count(usize),
     Refused(Refusal),
