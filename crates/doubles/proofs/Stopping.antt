@@ -8,7 +8,7 @@ use lib.ListN.{length}
 use Rattle.refusals.specs.Stop.{stop}
 use Rattle.tables.specs.Table.{column_count}
 use Rattle.marking.specs.Marks.{part}
-use Rattle.marking.proofs.Marking.{row_read, row_read}
+use Rattle.marking.proofs.Marking.{row_read, row_read_lem}
 use Rattle.keys.specs.Key.{key_order}
 use Rattle.sorting.specs.Sorted.{Compare, double_stop, new_stop}
 use Rattle.sorting.specs.Rows.{compare_rows, RowsSound}
@@ -22,7 +22,7 @@ pub search_asks : {columns : List ℕ} {used m n : ℕ} {searched rows : List �
     → SearchAsks columns used k searched (row_read rows (column_count columns) i)
 search_asks {columns} {m = m} {rows = rows} R S i k h l =
     let fewer : k * column_count columns ≤ m * column_count columns = mul-le-mul_right (column_count columns) l in
-    rw (row_read rows (column_count columns) i) (record {
+    rw (row_read_lem rows (column_count columns) i) (record {
       paired = R.paired;
       there = omega (arith, fewer, R.whole);
       full = row_full S i h;
@@ -35,7 +35,7 @@ search_asks {columns} {m = m} {rows = rows} R S i k h l =
 module _ (columns stored rows : List ℕ) (n i : ℕ) (h : i < n) (r : ℕ) (F : FirstEqual columns stored rows i (row_read rows (column_count columns) i) r) where
   -- the rows as the definition numbers them
   old_same : (j : ℕ) → j < i → compare_rows columns stored rows (0 + j) i ≡ key_order columns stored (part rows (column_count columns) j) (row_read rows (column_count columns) i)
-  old_same j l = rw (zero-add j, row_read rows (column_count columns) i)
+  old_same j l = rw (zero-add j, row_read_lem rows (column_count columns) i)
 
   -- an earlier one has its key, or none has
   pub old_twice : r < i → double_stop (compare_rows columns stored rows) i (n - i) ≡ stop 14 i
@@ -53,7 +53,7 @@ module _ (columns stored old : List ℕ) (m : ℕ) (new : List ℕ) (whole : len
 
   -- the new row in the whole
   here : part (old ++ new) (column_count columns) (m + k) ≡ row_read new (column_count columns) k
-  here = part_new old new (column_count columns) m whole k ∙ sym (row_read new (column_count columns) k)
+  here = part_new old new (column_count columns) m whole k ∙ sym (row_read_lem new (column_count columns) k)
 
   module _ (r : ℕ) (F : FirstEqual columns stored old m (row_read new (column_count columns) k) r) where
     old_numbered : (j : ℕ) → j < m → all (0 + j) (m + k) ≡ key_order columns stored (part old (column_count columns) j) (row_read new (column_count columns) k)

@@ -5,7 +5,7 @@ use mathlib.Core.List.{List, [], ◌∷◌}
 use Prim.Native.Nat.{ℕ, ◌+◌, ◌≤◌}
 use native.Mathlib.Omega.{arith}
 use lib.Dec.{eqb}
-use borrow.Author.Tests.{eqb-true, not_false}
+use borrow.Author.Tests.{eqb-true, not-false}
 use Rattle.refusals.specs.Stop.{never, stop_if}
 use Rattle.refusals.proofs.First.{never_both, not_stopped}
 use Rattle.cells.specs.Cell.{kind_of, length_of, is_cell, reaches_beyond}
@@ -29,7 +29,7 @@ module _ (m n : ℕ) (l : m ≤ n) where
   name_rises w p q h =
       let a = never_both (stop_if (not (is_text w)) 8 p) _ h in
       let b = never_both (stop_if (reaches_beyond m w) 3 p) _ a.1 in
-      let t = not_false (is_text w) (not_stopped (not (is_text w)) 8 p a.0) in
+      let t = not-false (is_text w) (not_stopped (not (is_text w)) 8 p a.0) in
       let k = text_kind w t in
       let i = ends_inside m w k (not_stopped (reaches_beyond m w) 3 p b.0) in
       let c = never_both (stop_if (not (is_name_length (length_of w))) 3 p) never b.1 in

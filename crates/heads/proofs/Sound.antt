@@ -9,7 +9,7 @@ use native.Mathlib.Nat.{zero-add}
 use lib.ListN.{length, take, length-append}
 use lib.Seq.{length-take-le}
 use lib.Dec.{eqb, ltb, leb}
-use borrow.Author.Tests.{eq-eqb, lt-ltb, le-leb, ltb-true, eqb-false, leb-true, not_false}
+use borrow.Author.Tests.{eq-eqb, lt-ltb, le-leb, ltb-true, eqb-false, leb-true, not-false}
 use Rattle.refusals.specs.Stop.{Stop, never, stop, stop_if, unless_stopped}
 use Rattle.refusals.proofs.First.{never_both, not_stopped}
 use Rattle.slices.specs.Splice.{piece}
@@ -139,7 +139,7 @@ side_good table nullable number (name ∷ rule ∷ columns) rest stored used p c
     let e : suc (suc (column_words columns + count)) ≡ column_words (name ∷ rule ∷ columns) + count = omega arith in
     subst (λ c. GoodHead stored c (side_of table nullable number (name ∷ rule ∷ columns) rest stored)) e
     (of_name_good stored (name_of table stored name) number (rule_of nullable rule) (column_words columns + count) (λ s. side_of table nullable (suc number) columns rest s)
-    (name_good table stored used name p b.0 u (omega arith)) (rule_good nullable rule (not_false (is_rule rule) (not_stopped (not (is_rule rule)) 8 (p + 1) b.1)))
+    (name_good table stored used name p b.0 u (omega arith)) (rule_good nullable rule (not-false (is_rule rule) (not_stopped (not (is_rule rule)) 8 (p + 1) b.1)))
     (λ s l m. side_good table nullable (suc number) columns rest s used (p + 2) count a.1 (omega arith) (omega arith) (λ t x y. f t (omega arith) (omega arith))))
 
 -- ---- both sides

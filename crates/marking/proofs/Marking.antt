@@ -123,8 +123,8 @@ abbrev pub row_read : List ℕ → ℕ → ℕ → List ℕ
 row_read rows width i = piece (i * width) (i * width + width - i * width) rows
 
 -- it is the row of that number
-pub row_read : (rows : List ℕ) (width i : ℕ) → row_read rows width i ≡ part rows width i
-row_read rows width i = ap (λ k. piece (i * width) k rows) (add-sub_cancel_left (i * width) width)
+pub row_read_lem : (rows : List ℕ) (width i : ℕ) → row_read rows width i ≡ part rows width i
+row_read_lem rows width i = ap (λ k. piece (i * width) k rows) (add-sub_cancel_left (i * width) width)
 
 -- what the loop over the rows keeps: the stored text, all of it where there is no condition, and the marks so far
 pub record MarkLoop (count used n width : ℕ) (nodes rows text₀ marks₀ text marks : List ℕ) (k i : ℕ) : Type 0 where
@@ -149,7 +149,7 @@ module _ (count used n width : ℕ) (nodes rows text₀ marks₀ : List ℕ) whe
       pub row_asks : (b : List ℕ) → MarkAsks b used count n width nodes rows text₀ marks₀ → TestAsks b used count nodes (row_read rows width i) text
       row_asks b A =
           let l : length (part rows width i) ≡ width = piece_length (i * width) width rows (omega (arith, row_inside n width i h, A.table.whole)) in
-          rw (row_read rows width i) (record {
+          rw (row_read_lem rows width i) (record {
             bytes = A.bytes;
             long = A.long;
             ready = rw l A.ready;
@@ -165,7 +165,7 @@ module _ (count used n width : ℕ) (nodes rows text₀ marks₀ : List ℕ) whe
             → RowIs used i count text text' m (test_of base b used (take used text₀) rows width i)
         marked_one b A m q =
             let r : RowIs used i count text text' m (test base b used (take used text) (row_read rows width i)) = rw (← q) (f b (row_asks b A)) in
-            rw (← row_read rows width i, ← L.kept) r
+            rw (← row_read_lem rows width i, ← L.kept) r
 
         -- a row is marked
         pub loop_turn : (b : List ℕ) → MarkAsks b used count n width nodes rows text₀ marks₀ → (m : ℕ) → one ≡ Rows m

@@ -14,7 +14,7 @@ use Rattle.slices.proofs.Pieces.{piece_length}
 use Rattle.marking.specs.RowList.{kept_from, words_of}
 use Rattle.marking.specs.Marks.{part}
 use Rattle.marking.proofs.Lists.{kept_turn, kept_end, words_none, words_more}
-use Rattle.marking.proofs.Marking.{row_inside, row_read, row_read}
+use Rattle.marking.proofs.Marking.{row_inside, row_read, row_read_lem}
 use Rattle.projecting.specs.Project.{projected, list_stop, has_mark, marked_words, RowsAsked}
 
 -- what is left to write from a row on
@@ -83,9 +83,9 @@ module _ {list rows marks : List ℕ} {width n : ℕ} (A : RowsAsked list rows m
 
     -- what the row's projection asks, the row as the code reads it
     pub project_asks : (list_stop (length (row_read rows width i)) 0 list ≡ never) × (at + length (projected list (row_read rows width i)) ≤ length out)
-    project_asks = rw (row_read rows width i, long) (A.listed, row_room _ (has_mark marks mark) n d out at i W room h marked)
+    project_asks = rw (row_read_lem rows width i, long) (A.listed, row_room _ (has_mark marks mark) n d out at i W room h marked)
 
     -- the row's projection is written
     pub project_wrote : (p : ℕ) (out' : List ℕ) → Wrote out at (projected list (row_read rows width i)) p out' → WritingRows out' p (i + 1)
     project_wrote p out' w =
-        writing_turn _ (has_mark marks mark) n d out at i W room h marked p out' (subst (λ r. Wrote out at (projected list r) p out') (row_read rows width i) w)
+        writing_turn _ (has_mark marks mark) n d out at i W room h marked p out' (subst (λ r. Wrote out at (projected list r) p out') (row_read_lem rows width i) w)

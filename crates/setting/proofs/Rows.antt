@@ -18,7 +18,7 @@ use Rattle.writing.proofs.Answers.{refused_is}
 use Rattle.marking.specs.RowList.{kept_from, words_of}
 use Rattle.marking.specs.Marks.{part}
 use Rattle.marking.proofs.Lists.{kept_below, words_length, kept_all}
-use Rattle.marking.proofs.Marking.{row_inside, row_read, row_read}
+use Rattle.marking.proofs.Marking.{row_inside, row_read, row_read_lem}
 use Rattle.projecting.proofs.Turns.{Writing, row_room, writing_turn}
 use Rattle.checks.specs.Check.{short_stop}
 use Rattle.setting.specs.Sets.{applied}
@@ -106,12 +106,12 @@ module _ {sets rows marks : List ℕ} {width n : ℕ} (A : AllAsked sets rows ma
       pub turn_asks : Within (length (row_read rows width i)) sets × (at + length (row_read rows width i) ≤ length out)
       turn_asks =
           let r = row_room _ (λ j. true) n d out at i W all_room h refl in
-          rw (row_read rows width i, long i h) (A.within, omega (arith, r, row_length sets (part rows width i) (get_or marks i 0), long i h))
+          rw (row_read_lem rows width i, long i h) (A.within, omega (arith, r, row_length sets (part rows width i) (get_or marks i 0), long i h))
 
       -- one row more is written
       pub turn_wrote : (p : ℕ) (out' : List ℕ) → Wrote out at (row_after sets (get_or marks i 0) (row_read rows width i)) p out' → WritingAll out' p (i + 1)
       turn_wrote p out' w =
-          writing_turn _ (λ j. true) n d out at i W all_room h refl p out' (subst (λ r. Wrote out at (row_after sets (get_or marks i 0) r) p out') (row_read rows width i) w)
+          writing_turn _ (λ j. true) n d out at i W all_room h refl p out' (subst (λ r. Wrote out at (row_after sets (get_or marks i 0) r) p out') (row_read_lem rows width i) w)
 
     -- the rows are written
     pub all_written : (p : ℕ) (after : List ℕ) → Wrote d 0 (all_words sets rows width n marks) p after
