@@ -1,0 +1,12 @@
+-- `straight::are_cells` meets its contract. The loop's invariant: the cells are refused as those that are left. Assumes nothing.
+use mathlib.Core.Path.{◌≡◌}
+use Prim.Native.Nat.{◌-◌, ◌≤◌}
+use lib.ListN.{length, drop}
+use Rattle.checks.specs.Check.{cells_stop}
+use Rattle.straight.proofs.are_cells.Given as goal
+
+abbrev pub invariant-loop-i : goal.invariant-loop-i
+invariant-loop-i l = (l.i ≤ length l.row) × (cells_stop l.used 0 l.row ≡ cells_stop l.used l.i (drop l.i l.row))
+
+abbrev pub decreases-loop-i : goal.decreases-loop-i
+decreases-loop-i l = length l.row - l.i
