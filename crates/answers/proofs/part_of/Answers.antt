@@ -9,7 +9,7 @@ pub returns-then-n-eq0 : goal.returns-then-n-eq0
 returns-then-n-eq0 c = part_empty c.args.rows.now c.args.width c.args.number _ refl refl (sym (ap length c.row-n.ensures) ∙ c.if-n-eq0.true)
 
 pub overflow_mul-result : goal.overflow_mul-result
-overflow_mul-result c = omega (arith, row_inside c.args.rows.now c.args.width c.args.number (λ z. c.if-n-eq0.false (ap length c.row-n.ensures ∙ z)), c.ranges.0)
+overflow_mul-result c = omega (arith, row_inside c.args.rows.now c.args.width c.args.number (λ z. c.if-n-eq0.false (ap length c.row-n.ensures ∙ z)), c.well_formed.0)
 
 pub returns : goal.returns
 returns c = part_there c.args.rows.now c.args.width c.args.number (λ z. c.if-n-eq0.false (ap length c.row-n.ensures ∙ z)) _ refl (ap length c.row-n.ensures)

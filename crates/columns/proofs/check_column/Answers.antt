@@ -1,7 +1,6 @@
 -- `columns::check_column` meets its contract. Assumes nothing.
 use mathlib.Core.Path.{◌≡◌, sym, ◌∙◌}
 use mathlib.Core.Bool.{true, false}
-use borrow.Author.Tests.{not-true, not_false}
 use Rattle.rules.specs.Rule.{is_rule}
 use Rattle.refusals.proofs.First.{refused_first, sound_first}
 use Rattle.columns.specs.Column.{column_stop}
@@ -13,10 +12,10 @@ returns-in_default c = refused_first _ _ _ _ c.in_default.is c.check_name-named.
 
 pub returns-then-not-is_rule : goal.returns-then-not-is_rule
 unfolding column_stop
-returns-then-not-is_rule c = let e : is_rule c.args.rule ≡ false = sym c.is_rule.ensures ∙ not-true _ c.if-not-is_rule.true in
+returns-then-not-is_rule c = let e : is_rule c.args.rule ≡ false = sym c.is_rule.ensures ∙ c.if-not-is_rule.true in
     sym (sound_first _ _ _ c.in-Sound.is c.check_name-named.ensures ∙ (rw e))
 
 pub returns : goal.returns
 unfolding column_stop
-returns c = let e : is_rule c.args.rule ≡ true = sym c.is_rule.ensures ∙ not_false _ c.if-not-is_rule.false in
+returns c = let e : is_rule c.args.rule ≡ true = sym c.is_rule.ensures ∙ c.if-not-is_rule.false in
     sym (sound_first _ _ _ c.in-Sound.is c.check_name-named.ensures ∙ (rw e))

@@ -18,6 +18,7 @@ pub loop-i-preserved : goal.loop-i-preserved
 loop-i-preserved c = (
   search rules,
   c.loop-i.invariant.1 ∙ columns_turn _ _ _ _ c.loop-i-test.true ∙ sound_first _ _ _ c.in-Sound.is c.check_column-checked.ensures ∙ (rw add_assoc),
+)
 
 pub returns : goal.returns
 returns c = sym (c.loop-i.invariant.1 ∙ columns_end _ _ _ _ c.loop-i-test.false)

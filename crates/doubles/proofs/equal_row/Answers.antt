@@ -48,6 +48,7 @@ pub compare_column-requires : goal.compare_column-requires
 compare_column-requires c = (
   c.requires.rows_sound.cells _ (cell_there c.requires _ c.loop-column.invariant.1 _ c.loop-column-test.true),
   c.requires.row_sound.cells _ (omega (arith, c.requires.full)),
+)
 
 pub rows-preserved : goal.rows-preserved
 rows-preserved c = (omega arith, passed _ _ _ _ c.requires c.loop-column.invariant.1 c.loop-column-test.true c.loop-column.invariant.4 _ c.compare_column.ensures c.in_default.keys2 c.loop-column.invariant.3)

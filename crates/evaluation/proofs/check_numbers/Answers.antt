@@ -37,6 +37,7 @@ pub loop-at-preserved : goal.loop-at-preserved
 loop-at-preserved c = (
   below _ c.loop-at.invariant.0 c.if-n-eq64.false,
   rw (c.body_of-body.ensures, c.wide.ensures.0) (c.loop-at.invariant.1 ∙ numbers_turn _ _ _ _ c.loop-at.invariant.0 c.if-n-eq64.false c.loop-at-test.true (sym c.is_missing.ensures ∙ c.if-is_missing.false)),
+)
 
 pub returns : goal.returns
 returns c = sym (c.loop-at.invariant.1 ∙ numbers_end _ _ _ _ c.loop-at-test.false)

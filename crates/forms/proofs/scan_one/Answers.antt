@@ -14,3 +14,4 @@ pub returns : goal.returns
 returns c = (
   (marks_start _ _ _ c.requires.1.1 c.if-n-eq0.false, omega (arith, c.if-deep-ge16.false), refl, c.if-n-eq0.false),
   λ used nodes s l h. one_step used nodes _ _ _ c.requires.1.0 c.requires.1.1 l _ _ s c.requires.0.0 c.requires.0.1 c.if-n-eq0.false c.if-deep-ge16.false h,
+)

@@ -22,6 +22,7 @@ pub returns-then-higher-ge16 : goal.returns-then-higher-ge16
 returns-then-higher-ge16 c = (
   refl,
   λ used nodes s l h. two_deep used nodes _ _ _ c.requires.1.0 c.requires.1.1 l _ _ s c.if-n-eq0.false c.if-right-eq0.false h (rw c.larger-higher.ensures at c.if-higher-ge16.true),
+)
 
 pub overflow_add-result : goal.overflow_add-result
 overflow_add-result c = omega (arith, c.requires.0.1, (marks_left _ _ _ c.requires.1.0 c.requires.1.1 c.if-n-eq0.false c.if-right-eq0.false).0)
@@ -38,3 +39,4 @@ returns c = (
   λ used nodes s l h. rw c.larger-higher.ensures
       (two_step used nodes _ _ _ c.requires.1.0 c.requires.1.1 l _ _ s c.if-n-eq0.false c.if-right-eq0.false h c.requires.0.0 c.requires.0.1
       (rw c.larger-higher.ensures at c.if-higher-ge16.false)),
+)

@@ -1,7 +1,6 @@
 -- `keeping::check_table` meets its contract: what stops it in document 01's order. Assumes nothing.
 use mathlib.Core.Path.{◌≡◌, sym, ap, ◌∙◌}
 use mathlib.Core.Bool.{true}
-use borrow.Author.Tests.{not-true, not_false}
 use Rattle.refusals.specs.Stop.{never}
 use Rattle.refusals.proofs.First.{told_sound}
 use Rattle.checks.specs.Check.{room_stop}
@@ -17,29 +16,29 @@ returns-in_default c = room_stops c.args.counts c.args.condition.now c.args.colu
 pub returns-then-not-is_table : goal.returns-then-not-is_table
 returns-then-not-is_table c =
     let room : room_stop (room_for c.args.condition.now) c.args.size c.args.used ≡ never = ap (λ k. room_stop k c.args.size c.args.used) (sym c.room_for.ensures) ∙ told_sound _ _ c.in-Sound.is c.check_room-room.ensures in
-    table_stops c.args.counts c.args.condition.now c.args.columns.now c.args.rows.now c.args.size c.args.used room (sym c.is_table.ensures ∙ not-true _ c.if-not-is_table.true)
+    table_stops c.args.counts c.args.condition.now c.args.columns.now c.args.rows.now c.args.size c.args.used room (sym c.is_table.ensures ∙ c.if-not-is_table.true)
 
 pub are_rows-requires : goal.are_rows-requires
 are_rows-requires c =
-    let table : is_table c.args.columns.now ≡ true = sym c.is_table.ensures ∙ not_false _ c.if-not-is_table.false in
+    let table : is_table c.args.columns.now ≡ true = sym c.is_table.ensures ∙ c.if-not-is_table.false in
     (table_counted _ table).some
 
 pub returns-then-not-are_rows : goal.returns-then-not-are_rows
 returns-then-not-are_rows c =
     let room : room_stop (room_for c.args.condition.now) c.args.size c.args.used ≡ never = ap (λ k. room_stop k c.args.size c.args.used) (sym c.room_for.ensures) ∙ told_sound _ _ c.in-Sound.is c.check_room-room.ensures in
-    let table : is_table c.args.columns.now ≡ true = sym c.is_table.ensures ∙ not_false _ c.if-not-is_table.false in
-    rows_stop_lem c.args.counts c.args.condition.now c.args.columns.now c.args.rows.now c.args.size c.args.used room table (sym c.are_rows.ensures ∙ not-true _ c.if-not-are_rows.true)
+    let table : is_table c.args.columns.now ≡ true = sym c.is_table.ensures ∙ c.if-not-is_table.false in
+    rows_stop_lem c.args.counts c.args.condition.now c.args.columns.now c.args.rows.now c.args.size c.args.used room table (sym c.are_rows.ensures ∙ c.if-not-are_rows.true)
 
 pub returns-then-not-counts : goal.returns-then-not-counts
 returns-then-not-counts c =
     let room : room_stop (room_for c.args.condition.now) c.args.size c.args.used ≡ never = ap (λ k. room_stop k c.args.size c.args.used) (sym c.room_for.ensures) ∙ told_sound _ _ c.in-Sound.is c.check_room-room.ensures in
-    let table : is_table c.args.columns.now ≡ true = sym c.is_table.ensures ∙ not_false _ c.if-not-is_table.false in
-    let rows : are_rows (column_count c.args.columns.now) c.args.rows.now ≡ true = sym c.are_rows.ensures ∙ not_false _ c.if-not-are_rows.false in
-    counts_stop c.args.counts c.args.condition.now c.args.columns.now c.args.rows.now c.args.size c.args.used room table rows (not-true _ c.if-not-counts.true)
+    let table : is_table c.args.columns.now ≡ true = sym c.is_table.ensures ∙ c.if-not-is_table.false in
+    let rows : are_rows (column_count c.args.columns.now) c.args.rows.now ≡ true = sym c.are_rows.ensures ∙ c.if-not-are_rows.false in
+    counts_stop c.args.counts c.args.condition.now c.args.columns.now c.args.rows.now c.args.size c.args.used room table rows c.if-not-counts.true
 
 pub returns : goal.returns
 returns c =
     let room : room_stop (room_for c.args.condition.now) c.args.size c.args.used ≡ never = ap (λ k. room_stop k c.args.size c.args.used) (sym c.room_for.ensures) ∙ told_sound _ _ c.in-Sound.is c.check_room-room.ensures in
-    let table : is_table c.args.columns.now ≡ true = sym c.is_table.ensures ∙ not_false _ c.if-not-is_table.false in
-    let rows : are_rows (column_count c.args.columns.now) c.args.rows.now ≡ true = sym c.are_rows.ensures ∙ not_false _ c.if-not-are_rows.false in
-    c.check_words.ensures ∙ words_stop_lem c.args.counts c.args.condition.now c.args.columns.now c.args.rows.now c.args.size c.args.used room table rows (not_false _ c.if-not-counts.false)
+    let table : is_table c.args.columns.now ≡ true = sym c.is_table.ensures ∙ c.if-not-is_table.false in
+    let rows : are_rows (column_count c.args.columns.now) c.args.rows.now ≡ true = sym c.are_rows.ensures ∙ c.if-not-are_rows.false in
+    c.check_words.ensures ∙ words_stop_lem c.args.counts c.args.condition.now c.args.columns.now c.args.rows.now c.args.size c.args.used room table rows c.if-not-counts.false

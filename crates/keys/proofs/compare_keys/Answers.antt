@@ -13,6 +13,7 @@ pub compare_column-order-requires : goal.compare_column-order-requires
 compare_column-order-requires c = (
   c.requires.first_sound.cells _ c.loop-i-test.true,
   c.requires.second_sound.cells _ (search rules),
+)
 
 pub returns-in_default : goal.returns-in_default
 returns-in_default c = sym (c.loop-i.invariant.1 ∙ leaves _ _ _ _ _ c.requires c.loop-i-test.true _ c.compare_column-order.ensures c.in_default.keys2)
@@ -21,6 +22,7 @@ pub loop-i-preserved : goal.loop-i-preserved
 loop-i-preserved c = (
   search rules,
   c.loop-i.invariant.1 ∙ goes_on _ _ _ _ _ c.requires c.loop-i-test.true _ c.compare_column-order.ensures c.in-Equal.is,
+)
 
 pub returns : goal.returns
 returns c = sym (c.loop-i.invariant.1 ∙ end _ _ _ _ _ c.loop-i-test.false)

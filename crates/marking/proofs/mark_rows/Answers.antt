@@ -21,13 +21,13 @@ pub loop-i-init : goal.loop-i-init
 loop-i-init c = loop_start _ _ _ _ _ _ _ _
 
 pub overflow_mul-start : goal.overflow_mul-start
-overflow_mul-start c = omega (arith, ends c, c.ranges.1.1.0)
+overflow_mul-start c = omega (arith, ends c, c.well_formed.1.1.0)
 
 pub overflow_add-start : goal.overflow_add-start
-overflow_add-start c = omega (arith, ends c, c.ranges.1.1.0)
+overflow_add-start c = omega (arith, ends c, c.well_formed.1.1.0)
 
 pub offset_bounds-rows-start : goal.offset_bounds-rows-start
-offset_bounds-rows-start c = omega (arith, ends c, c.ranges.1.1.0)
+offset_bounds-rows-start c = omega (arith, ends c, c.well_formed.1.1.0)
 
 pub slice_bounds-mark_row-end : goal.slice_bounds-mark_row-end
 slice_bounds-mark_row-end c = ends c

@@ -23,7 +23,7 @@ overflow_add-at c = omega (arith, c.loop-at-test.true)
 
 pub overflow_add-at-in-loop-at : goal.overflow_add-at-in-loop-at
 overflow_add-at-in-loop-at c = let q : c.loop-at.at + 1 + c.body_of-body.result ≤ length c.args.b.now = rw (c.body_of-body.ensures, c.wide.ensures.0) (left_inside c.loop-at.invariant c.loop-at-test.true) in
-    omega (arith, c.ranges)
+    omega (arith, c.well_formed)
 
 pub loop-at-smaller : goal.loop-at-smaller
 loop-at-smaller c = omega (arith, c.loop-at-test.true)

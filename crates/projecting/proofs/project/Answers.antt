@@ -23,16 +23,16 @@ pub loop-i-init : goal.loop-i-init
 loop-i-init c = copying_start _ _ _
 
 pub offset_bounds-row-list : goal.offset_bounds-row-list
-offset_bounds-row-list c = omega (arith, list_sound _ _ _ c.requires.0 _ c.loop-i-test.true, c.ranges.0)
+offset_bounds-row-list c = omega (arith, list_sound _ _ _ c.requires.0 _ c.loop-i-test.true, c.well_formed.0)
 
 pub bounds-row-list : goal.bounds-row-list
 bounds-row-list c = list_sound _ _ _ c.requires.0 _ c.loop-i-test.true
 
 pub overflow_add-out : goal.overflow_add-out
-overflow_add-out c = omega (arith, fits c, c.ranges.1.1.0)
+overflow_add-out c = omega (arith, fits c, c.well_formed.1.1.0)
 
 pub offset_bounds-out-at : goal.offset_bounds-out-at
-offset_bounds-out-at c = omega (arith, fits c, c.ranges.1.1.0)
+offset_bounds-out-at c = omega (arith, fits c, c.well_formed.1.1.0)
 
 pub bounds-out-at : goal.bounds-out-at
 bounds-out-at c = omega (arith, fits c, c.loop-i.invariant.long)
@@ -41,7 +41,7 @@ pub loop-i-preserved : goal.loop-i-preserved
 loop-i-preserved c = project_turn c.args.list.now c.args.row.now _ _ c.if-list-eq0.false c.requires.1 _ _ c.loop-i.invariant c.loop-i-test.true
 
 pub overflow_add-result : goal.overflow_add-result
-overflow_add-result c = omega (arith, fits c, c.ranges.1.1.0)
+overflow_add-result c = omega (arith, fits c, c.well_formed.1.1.0)
 
 pub shape_of-out : goal.shape_of-out
 shape_of-out c = c.loop-i.invariant.long

@@ -10,7 +10,7 @@ use Rattle.quick.proofs.Walking.{leaf_sound, leaf_found, left_stands, right_stan
 use Rattle.quick.proofs.shallow.Goals as goal
 
 pub offset_bounds-nodes-k : goal.offset_bounds-nodes-k
-offset_bounds-nodes-k c = scaled_Fits _ _ 8 (in_table _ _ _ _ _ c.requires.sound) c.ranges.0.1
+offset_bounds-nodes-k c = scaled_Fits _ _ 8 (in_table _ _ _ _ _ c.requires.sound) c.well_formed.0.1
 
 pub bounds-nodes-k : goal.bounds-nodes-k
 bounds-nodes-k c = in_table _ _ _ _ _ c.requires.sound
@@ -28,7 +28,7 @@ pub returns-then-op-ge47 : goal.returns-then-op-ge47
 returns-then-op-ge47 c = λ n. absurd (n refl)
 
 pub offset_bounds-nodes-l : goal.offset_bounds-nodes-l
-offset_bounds-nodes-l c = scaled_Fits _ _ 8 (first-in (c)) c.ranges.0.1
+offset_bounds-nodes-l c = scaled_Fits _ _ 8 (first-in (c)) c.well_formed.0.1
 
 pub bounds-nodes-l : goal.bounds-nodes-l
 bounds-nodes-l c =
@@ -41,7 +41,7 @@ overflow_sub-right c = (sound_two _ _ _ _ _ c.requires.sound (node_two _ c.if-op
 pub offset_bounds-nodes-k-2 : goal.offset_bounds-nodes-k-2
 offset_bounds-nodes-k-2 c =
     let second-in : c.args.k - 1 < length c.args.nodes.now = omega (arith, in_table _ _ _ _ _ c.requires.sound) in
-    let h = second-in in scaled_Fits _ _ 8 h c.ranges.0.1
+    let h = second-in in scaled_Fits _ _ 8 h c.well_formed.0.1
 
 pub bounds-nodes-k-2 : goal.bounds-nodes-k-2
 bounds-nodes-k-2 c =

@@ -22,7 +22,7 @@ pub overflow_mul-result : goal.overflow_mul-result
 overflow_mul-result c = omega (arith, c.requires.0.1)
 
 pub overflow_add-result : goal.overflow_add-result
-overflow_add-result c = omega (arith, c.requires.2, c.ranges.0)
+overflow_add-result c = omega (arith, c.requires.2, c.well_formed.0)
 
 pub overflow_add-result-2 : goal.overflow_add-result-2
 overflow_add-result-2 c = omega (arith, c.requires.3)

@@ -23,7 +23,7 @@ pub overflow_mul-result : goal.overflow_mul-result
 overflow_mul-result c = omega (arith, c.requires.known.1)
 
 pub overflow_add-result : goal.overflow_add-result
-overflow_add-result c = omega (arith, c.requires.end_space, c.ranges.1)
+overflow_add-result c = omega (arith, c.requires.end_space, c.well_formed.1)
 
 pub overflow_add-result-2 : goal.overflow_add-result-2
 overflow_add-result-2 c = omega (arith, c.requires.early)

@@ -3,7 +3,6 @@ use mathlib.Core.Path.{sym, ◌∙◌}
 use Prim.Native.Nat.{◌-◌}
 use native.Mathlib.Omega.{arith}
 use lib.Seq.{length-take-le}
-use borrow.Author.Tests.{not-true, not_false}
 use Rattle.replay.specs.Compare.{rubbish_byte}
 use Rattle.replay.proofs.Comparing.{output_short, output_other, output_begins, rubbish_differs, rubbish_agrees, rubbish_end}
 use Rattle.replay.proofs.output_is.Goals as goal
@@ -15,10 +14,10 @@ pub slice_bounds-equal_bytes-end : goal.slice_bounds-equal_bytes-end
 slice_bounds-equal_bytes-end c = sym (length-take-le _ _ c.if-out-i.false)
 
 pub returns-then-not-equal_bytes : goal.returns-then-not-equal_bytes
-returns-then-not-equal_bytes c = sym (output_other (rubbish_byte c.args.rubbish) c.args.out.now c.args.res.now (sym c.equal_bytes.ensures ∙ not-true _ c.if-not-equal_bytes.true))
+returns-then-not-equal_bytes c = sym (output_other (rubbish_byte c.args.rubbish) c.args.out.now c.args.res.now (sym c.equal_bytes.ensures ∙ c.if-not-equal_bytes.true))
 
 pub loop-i-init : goal.loop-i-init
-loop-i-init c = (c.if-out-i.false, output_begins (rubbish_byte c.args.rubbish) c.args.out.now c.args.res.now (sym c.equal_bytes.ensures ∙ not_false _ c.if-not-equal_bytes.false))
+loop-i-init c = (c.if-out-i.false, output_begins (rubbish_byte c.args.rubbish) c.args.out.now c.args.res.now (sym c.equal_bytes.ensures ∙ c.if-not-equal_bytes.false))
 
 pub returns-then-out-i-2 : goal.returns-then-out-i-2
 returns-then-out-i-2 c = sym (c.loop-i.invariant.1 ∙ rubbish_differs (rubbish_byte c.args.rubbish) c.args.out.now _ c.loop-i-test.true (λ e. c.if-out-i-2.true (e ∙ sym c.rubbish_at.ensures)))

@@ -2,7 +2,6 @@
 use mathlib.Core.Path.{sym, ◌∙◌}
 use native.Mathlib.Omega.{arith}
 use lib.Seq.{length-take-le}
-use borrow.Author.Tests.{not-true, not_false}
 use Rattle.replay.proofs.Comparing.{mark_early, stored_other, stored_there}
 use Rattle.replay.proofs.text_is.Goals as goal
 
@@ -13,7 +12,7 @@ pub slice_bounds-equal_bytes-end : goal.slice_bounds-equal_bytes-end
 slice_bounds-equal_bytes-end c = sym (length-take-le _ _ (omega (arith, c.if-end-start.false, c.least-end.ensures)))
 
 pub returns-then-not-equal_bytes : goal.returns-then-not-equal_bytes
-returns-then-not-equal_bytes c = sym (stored_other c.args.text.now c.args.stored.now c.args.new.now c.args.mark _ c.least-end.ensures c.if-end-start.false (sym c.equal_bytes.ensures ∙ not-true _ c.if-not-equal_bytes.true))
+returns-then-not-equal_bytes c = sym (stored_other c.args.text.now c.args.stored.now c.args.new.now c.args.mark _ c.least-end.ensures c.if-end-start.false (sym c.equal_bytes.ensures ∙ c.if-not-equal_bytes.true))
 
 pub returns : goal.returns
-returns c = c.equal_bytes-2.ensures ∙ stored_there c.args.text.now c.args.stored.now c.args.new.now c.args.mark _ c.least-end.ensures c.if-end-start.false (sym c.equal_bytes.ensures ∙ not_false _ c.if-not-equal_bytes.false)
+returns c = c.equal_bytes-2.ensures ∙ stored_there c.args.text.now c.args.stored.now c.args.new.now c.args.mark _ c.least-end.ensures c.if-end-start.false (sym c.equal_bytes.ensures ∙ c.if-not-equal_bytes.false)

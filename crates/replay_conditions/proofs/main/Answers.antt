@@ -23,3 +23,4 @@ loop-cases-preserved c = (
   omega (arith, c.difference-differ.ensures.0, c.loop-cases.invariant.1),
   c.next_case-size.ensures.1 ∙ c.loop-cases.invariant.2,
   c.difference-differ.ensures.1 ∙ c.loop-cases.invariant.3,
+)

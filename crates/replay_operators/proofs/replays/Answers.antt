@@ -5,7 +5,7 @@ use native.Mathlib.Omega.{arith}
 use Rattle.replay_operators.proofs.replays.Goals as goal
 
 pub overflow_add-last : goal.overflow_add-last
-overflow_add-last c = omega (arith, c.bytes-content.ensures.0, c.ranges.0.0)
+overflow_add-last c = omega (arith, c.bytes-content.ensures.0, c.well_formed.0.0)
 
 pub slice_bounds-called-end : goal.slice_bounds-called-end
 slice_bounds-called-end c = c.bytes-condition.ensures.0

@@ -11,3 +11,4 @@ binary-requires c = (
   record { above = omega arith; short = omega arith; small = omega arith },
   sym c.check_cell-first.ensures ∙ ap checked_of c.in-Sound.is,
   sym c.check_cell-second.ensures ∙ ap checked_of c.in-Sound-second.is,
+)

@@ -8,44 +8,39 @@ use lib.ListN.{length-replicate}
 use Rattle.refusals.specs.Stop.{never}
 use Rattle.refusals.proofs.First.{told_refused, told_sound}
 use Rattle.keeping.proofs.Passing.{table_passed, passed_asks}
-use Rattle.selecting.proofs.Calls.{Question, TableStop, PassedBy, delete_table, delete_refused, delete_some, delete_asks, delete_written}
-use Rattle.selecting.proofs.delete.Tie as tie
+use Rattle.selecting.proofs.Calls.{TableStop, PassedBy, delete_table, delete_refused, delete_some, delete_asks, delete_written}
 use Rattle.selecting.proofs.delete.Goals as goal
 
--- what the call was lent
-abbrev asked : tie.Start → Question
-asked s = record { columns = s.args.columns.now; rows = s.args.rows.now; list = []; condition = s.args.condition.now; text = s.args.text.now; out = s.args.out.now; used = s.args.used }
-
 pub returns-in-Refused : goal.returns-in-Refused
-returns-in-Refused c = (delete_table (asked c) _ (told_refused _ _ _ c.in-Refused.is c.check_table-table.ensures), (refl, λ z. refl))
+returns-in-Refused c = (delete_table (record { columns = s.args.columns.now; rows = s.args.rows.now; list = []; condition = s.args.condition.now; text = s.args.text.now; out = s.args.out.now; used = s.args.used }) _ (told_refused _ _ _ c.in-Refused.is c.check_table-table.ensures), (refl, λ z. refl))
 
 pub nonzero_div-n : goal.nonzero_div-n
 nonzero_div-n c =
-    let passed_table : TableStop true (asked c) ≡ never = told_sound _ _ c.in_default.is c.check_table-table.ensures in
-    let passed : PassedBy true (asked c) = table_passed _ _ _ _ _ _ (passed_table) in
+    let passed_table : TableStop true (record { columns = s.args.columns.now; rows = s.args.rows.now; list = []; condition = s.args.condition.now; text = s.args.text.now; out = s.args.out.now; used = s.args.used }) ≡ never = told_sound _ _ c.in_default.is c.check_table-table.ensures in
+    let passed : PassedBy true (record { columns = s.args.columns.now; rows = s.args.rows.now; list = []; condition = s.args.condition.now; text = s.args.text.now; out = s.args.out.now; used = s.args.used }) = table_passed _ _ _ _ _ _ (passed_table) in
     omega (arith, passed.table.some)
 
 pub mark_table-requires : goal.mark_table-requires
 mark_table-requires c =
-    let passed_table : TableStop true (asked c) ≡ never = told_sound _ _ c.in_default.is c.check_table-table.ensures in
-    let passed : PassedBy true (asked c) = table_passed _ _ _ _ _ _ (passed_table) in
+    let passed_table : TableStop true (record { columns = s.args.columns.now; rows = s.args.rows.now; list = []; condition = s.args.condition.now; text = s.args.text.now; out = s.args.out.now; used = s.args.used }) ≡ never = told_sound _ _ c.in_default.is c.check_table-table.ensures in
+    let passed : PassedBy true (record { columns = s.args.columns.now; rows = s.args.rows.now; list = []; condition = s.args.condition.now; text = s.args.text.now; out = s.args.out.now; used = s.args.used }) = table_passed _ _ _ _ _ _ (passed_table) in
     passed_asks _ _ passed (length-replicate {A = ℕ} 4096 0)
 
 pub overflow_sub-n : goal.overflow_sub-n
-overflow_sub-n c = delete_some (asked c) _ _ _ _ c.mark_table.ensures _ c.in-Rows.is
+overflow_sub-n c = delete_some (record { columns = s.args.columns.now; rows = s.args.rows.now; list = []; condition = s.args.condition.now; text = s.args.text.now; out = s.args.out.now; used = s.args.used }) _ _ _ _ c.mark_table.ensures _ c.in-Rows.is
 
 pub write_kept-requires : goal.write_kept-requires
 write_kept-requires c =
-    let passed_table : TableStop true (asked c) ≡ never = told_sound _ _ c.in_default.is c.check_table-table.ensures in
-    let passed : PassedBy true (asked c) = table_passed _ _ _ _ _ _ (passed_table) in
-    delete_asks (asked c) _ _ _ _ c.mark_table.ensures _ c.in-Rows.is passed (c.mark_table.auto.marks ∙ length-replicate {A = ℕ} 4096 0)
+    let passed_table : TableStop true (record { columns = s.args.columns.now; rows = s.args.rows.now; list = []; condition = s.args.condition.now; text = s.args.text.now; out = s.args.out.now; used = s.args.used }) ≡ never = told_sound _ _ c.in_default.is c.check_table-table.ensures in
+    let passed : PassedBy true (record { columns = s.args.columns.now; rows = s.args.rows.now; list = []; condition = s.args.condition.now; text = s.args.text.now; out = s.args.out.now; used = s.args.used }) = table_passed _ _ _ _ _ _ (passed_table) in
+    delete_asks (record { columns = s.args.columns.now; rows = s.args.rows.now; list = []; condition = s.args.condition.now; text = s.args.text.now; out = s.args.out.now; used = s.args.used }) _ _ _ _ c.mark_table.ensures _ c.in-Rows.is passed (c.mark_table.auto.marks ∙ length-replicate {A = ℕ} 4096 0)
 
 pub returns-in-Refused-mark_table : goal.returns-in-Refused-mark_table
 returns-in-Refused-mark_table c =
-    let passed_table : TableStop true (asked c) ≡ never = told_sound _ _ c.in_default.is c.check_table-table.ensures in
-    (delete_refused (asked c) _ _ _ _ c.mark_table.ensures passed_table _ c.in-Refused-mark_table.is, (c.mark_table.ensures.kept, c.mark_table.ensures.alone))
+    let passed_table : TableStop true (record { columns = s.args.columns.now; rows = s.args.rows.now; list = []; condition = s.args.condition.now; text = s.args.text.now; out = s.args.out.now; used = s.args.used }) ≡ never = told_sound _ _ c.in_default.is c.check_table-table.ensures in
+    (delete_refused (record { columns = s.args.columns.now; rows = s.args.rows.now; list = []; condition = s.args.condition.now; text = s.args.text.now; out = s.args.out.now; used = s.args.used }) _ _ _ _ c.mark_table.ensures passed_table _ c.in-Refused-mark_table.is, (c.mark_table.ensures.kept, c.mark_table.ensures.alone))
 
 pub returns-in-Rows : goal.returns-in-Rows
 returns-in-Rows c =
-    let passed_table : TableStop true (asked c) ≡ never = told_sound _ _ c.in_default.is c.check_table-table.ensures in
-    (delete_written (asked c) _ _ _ _ c.mark_table.ensures _ c.in-Rows.is passed_table _ _ c.write_kept.ensures, (c.mark_table.ensures.kept, c.mark_table.ensures.alone))
+    let passed_table : TableStop true (record { columns = s.args.columns.now; rows = s.args.rows.now; list = []; condition = s.args.condition.now; text = s.args.text.now; out = s.args.out.now; used = s.args.used }) ≡ never = told_sound _ _ c.in_default.is c.check_table-table.ensures in
+    (delete_written (record { columns = s.args.columns.now; rows = s.args.rows.now; list = []; condition = s.args.condition.now; text = s.args.text.now; out = s.args.out.now; used = s.args.used }) _ _ _ _ c.mark_table.ensures _ c.in-Rows.is passed_table _ _ c.write_kept.ensures, (c.mark_table.ensures.kept, c.mark_table.ensures.alone))

@@ -8,7 +8,7 @@ pub loop-k-init : goal.loop-k-init
 loop-k-init c = applying_start _ _ c.requires
 
 pub offset_bounds-row-sets : goal.offset_bounds-row-sets
-offset_bounds-row-sets c = omega (arith, applying_inside c.loop-k.invariant c.loop-k-test.true, c.loop-k.invariant.long, c.ranges.1.0)
+offset_bounds-row-sets c = omega (arith, applying_inside c.loop-k.invariant c.loop-k-test.true, c.loop-k.invariant.long, c.well_formed.1.0)
 
 pub bounds-row-sets : goal.bounds-row-sets
 bounds-row-sets c = applying_inside c.loop-k.invariant c.loop-k-test.true

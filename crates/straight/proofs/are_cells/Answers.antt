@@ -1,7 +1,6 @@
 -- `straight::are_cells` meets its contract. The loop's invariant: the cells are refused as those that are left. Assumes nothing.
 use mathlib.Core.Path.{refl, sym, ◌∙◌}
 use Prim.Native.Nat.{◌-◌}
-use borrow.Author.Tests.{not_false}
 use Rattle.refusals.proofs.Bools.{true_false}
 use Rattle.straight.proofs.Reading.{cell_passed}
 use Rattle.checks.proofs.Turns.{cells_end}
@@ -15,7 +14,7 @@ pub returns-then-not-is_fine : goal.returns-then-not-is_fine
 returns-then-not-is_fine c = λ e. true_false (sym e)
 
 pub loop-i-preserved : goal.loop-i-preserved
-loop-i-preserved c = (search rules, c.loop-i.invariant.1 ∙ cell_passed _ _ _ c.loop-i-test.true (c.is_fine.ensures (not_false _ c.if-not-is_fine.false)))
+loop-i-preserved c = (search rules, c.loop-i.invariant.1 ∙ cell_passed _ _ _ c.loop-i-test.true (c.is_fine.ensures c.if-not-is_fine.false))
 
 pub returns : goal.returns
 returns c = λ e. c.loop-i.invariant.1 ∙ cells_end _ _ _ _ c.loop-i-test.false

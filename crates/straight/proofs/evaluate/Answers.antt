@@ -32,6 +32,7 @@ returns-then-are_cells c = λ n. record {
   count = (c.if-row-lt1.false, c.if-row-gt32.false);
   cells = c.are_cells.ensures c.if-are_cells.true;
   ran = c.run.ensures n;
+}
 
 pub returns : goal.returns
 returns c = λ n. absurd (n refl)

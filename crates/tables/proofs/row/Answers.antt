@@ -21,13 +21,13 @@ pub returns-then-rows-width : goal.returns-then-rows-width
 returns-then-rows-width c = too_large _ _ _ c.if-width-lt1.false c.if-width-gt32.false c.if-rows-width-ne0.false c.if-rows-width.true
 
 pub overflow_mul-start : goal.overflow_mul-start
-overflow_mul-start c = omega (arith, inside (length c.args.rows.now) c.args.width c.args.number.0 c.if-width-lt1.false c.if-rows-width.false, c.ranges.0)
+overflow_mul-start c = omega (arith, inside (length c.args.rows.now) c.args.width c.args.number.0 c.if-width-lt1.false c.if-rows-width.false, c.well_formed.0)
 
 pub overflow_add-result : goal.overflow_add-result
-overflow_add-result c = omega (arith, inside (length c.args.rows.now) c.args.width c.args.number.0 c.if-width-lt1.false c.if-rows-width.false, c.ranges.0)
+overflow_add-result c = omega (arith, inside (length c.args.rows.now) c.args.width c.args.number.0 c.if-width-lt1.false c.if-rows-width.false, c.well_formed.0)
 
 pub offset_bounds-rows-start : goal.offset_bounds-rows-start
-offset_bounds-rows-start c = omega (arith, inside (length c.args.rows.now) c.args.width c.args.number.0 c.if-width-lt1.false c.if-rows-width.false, c.ranges.0)
+offset_bounds-rows-start c = omega (arith, inside (length c.args.rows.now) c.args.width c.args.number.0 c.if-width-lt1.false c.if-rows-width.false, c.well_formed.0)
 
 pub slice_bounds-result-end-2 : goal.slice_bounds-result-end-2
 slice_bounds-result-end-2 c = inside (length c.args.rows.now) c.args.width c.args.number.0 c.if-width-lt1.false c.if-rows-width.false

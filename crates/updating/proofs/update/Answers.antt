@@ -6,60 +6,55 @@ use lib.ListN.{length-replicate}
 use Rattle.refusals.specs.Stop.{never}
 use Rattle.refusals.proofs.First.{told_refused, told_sound}
 use Rattle.keeping.proofs.Passing.{table_passed, passed_asks}
-use Rattle.selecting.proofs.Calls.{Question, TableStop, PassedBy}
+use Rattle.selecting.proofs.Calls.{TableStop, PassedBy}
 use Rattle.setting.specs.Sets.{are_sets}
 use Rattle.updating.proofs.Calls.{TableFor, SetsFor, stored_length, update_table, update_sets, update_refused, update_asks, update_written}
-use Rattle.updating.proofs.update.Tie as tie
 use Rattle.updating.proofs.update.Goals as goal
 
--- what the call was lent
-abbrev asked : tie.Start → Question
-asked s = record { columns = s.args.columns.now; rows = s.args.rows.now; list = s.args.sets.now; condition = s.args.condition.now; text = s.args.text.now; out = s.args.out.now; used = s.args.used }
-
 pub returns-in-Refused : goal.returns-in-Refused
-returns-in-Refused c = (update_table (asked c) _ (ap (λ x. TableStop x (asked c)) (sym c.are_sets.ensures) ∙ told_refused _ _ _ c.in-Refused.is c.check_table-table.ensures), (refl, λ z. refl))
+returns-in-Refused c = (update_table (record { columns = s.args.columns.now; rows = s.args.rows.now; list = s.args.sets.now; condition = s.args.condition.now; text = s.args.text.now; out = s.args.out.now; used = s.args.used }) _ (ap (λ x. TableStop x (record { columns = s.args.columns.now; rows = s.args.rows.now; list = s.args.sets.now; condition = s.args.condition.now; text = s.args.text.now; out = s.args.out.now; used = s.args.used })) (sym c.are_sets.ensures) ∙ told_refused _ _ _ c.in-Refused.is c.check_table-table.ensures), (refl, λ z. refl))
 
 pub check_sets-wrong-requires : goal.check_sets-wrong-requires
 check_sets-wrong-requires c =
-    let passed_table : TableFor (asked c) ≡ never = ap (λ x. TableStop x (asked c)) (sym c.are_sets.ensures) ∙ told_sound _ _ c.in_default.is c.check_table-table.ensures in
-    let passed : PassedBy (are_sets c.args.sets.now) (asked c) = table_passed _ _ _ _ _ _ (passed_table) in
+    let passed_table : TableFor (record { columns = s.args.columns.now; rows = s.args.rows.now; list = s.args.sets.now; condition = s.args.condition.now; text = s.args.text.now; out = s.args.out.now; used = s.args.used }) ≡ never = ap (λ x. TableStop x (record { columns = s.args.columns.now; rows = s.args.rows.now; list = s.args.sets.now; condition = s.args.condition.now; text = s.args.text.now; out = s.args.out.now; used = s.args.used })) (sym c.are_sets.ensures) ∙ told_sound _ _ c.in_default.is c.check_table-table.ensures in
+    let passed : PassedBy (are_sets c.args.sets.now) (record { columns = s.args.columns.now; rows = s.args.rows.now; list = s.args.sets.now; condition = s.args.condition.now; text = s.args.text.now; out = s.args.out.now; used = s.args.used }) = table_passed _ _ _ _ _ _ (passed_table) in
     passed.table.whole
 
 pub returns-in-Refused-wrong : goal.returns-in-Refused-wrong
 returns-in-Refused-wrong c =
-    let passed_table : TableFor (asked c) ≡ never = ap (λ x. TableStop x (asked c)) (sym c.are_sets.ensures) ∙ told_sound _ _ c.in_default.is c.check_table-table.ensures in
-    let passed : PassedBy (are_sets c.args.sets.now) (asked c) = table_passed _ _ _ _ _ _ (passed_table) in
-    (update_sets (asked c) passed_table _ (told_refused _ _ _ c.in-Refused-wrong.is (c.check_sets-wrong.ensures _ (stored_length (asked c) passed))), (refl, λ z. refl))
+    let passed_table : TableFor (record { columns = s.args.columns.now; rows = s.args.rows.now; list = s.args.sets.now; condition = s.args.condition.now; text = s.args.text.now; out = s.args.out.now; used = s.args.used }) ≡ never = ap (λ x. TableStop x (record { columns = s.args.columns.now; rows = s.args.rows.now; list = s.args.sets.now; condition = s.args.condition.now; text = s.args.text.now; out = s.args.out.now; used = s.args.used })) (sym c.are_sets.ensures) ∙ told_sound _ _ c.in_default.is c.check_table-table.ensures in
+    let passed : PassedBy (are_sets c.args.sets.now) (record { columns = s.args.columns.now; rows = s.args.rows.now; list = s.args.sets.now; condition = s.args.condition.now; text = s.args.text.now; out = s.args.out.now; used = s.args.used }) = table_passed _ _ _ _ _ _ (passed_table) in
+    (update_sets (record { columns = s.args.columns.now; rows = s.args.rows.now; list = s.args.sets.now; condition = s.args.condition.now; text = s.args.text.now; out = s.args.out.now; used = s.args.used }) passed_table _ (told_refused _ _ _ c.in-Refused-wrong.is (c.check_sets-wrong.ensures _ (stored_length (record { columns = s.args.columns.now; rows = s.args.rows.now; list = s.args.sets.now; condition = s.args.condition.now; text = s.args.text.now; out = s.args.out.now; used = s.args.used }) passed))), (refl, λ z. refl))
 
 pub nonzero_div-n : goal.nonzero_div-n
 nonzero_div-n c =
-    let passed_table : TableFor (asked c) ≡ never = ap (λ x. TableStop x (asked c)) (sym c.are_sets.ensures) ∙ told_sound _ _ c.in_default.is c.check_table-table.ensures in
-    let passed : PassedBy (are_sets c.args.sets.now) (asked c) = table_passed _ _ _ _ _ _ (passed_table) in
+    let passed_table : TableFor (record { columns = s.args.columns.now; rows = s.args.rows.now; list = s.args.sets.now; condition = s.args.condition.now; text = s.args.text.now; out = s.args.out.now; used = s.args.used }) ≡ never = ap (λ x. TableStop x (record { columns = s.args.columns.now; rows = s.args.rows.now; list = s.args.sets.now; condition = s.args.condition.now; text = s.args.text.now; out = s.args.out.now; used = s.args.used })) (sym c.are_sets.ensures) ∙ told_sound _ _ c.in_default.is c.check_table-table.ensures in
+    let passed : PassedBy (are_sets c.args.sets.now) (record { columns = s.args.columns.now; rows = s.args.rows.now; list = s.args.sets.now; condition = s.args.condition.now; text = s.args.text.now; out = s.args.out.now; used = s.args.used }) = table_passed _ _ _ _ _ _ (passed_table) in
     omega (arith, passed.table.some)
 
 pub mark_table-requires : goal.mark_table-requires
 mark_table-requires c =
-    let passed_table : TableFor (asked c) ≡ never = ap (λ x. TableStop x (asked c)) (sym c.are_sets.ensures) ∙ told_sound _ _ c.in_default.is c.check_table-table.ensures in
-    let passed : PassedBy (are_sets c.args.sets.now) (asked c) = table_passed _ _ _ _ _ _ (passed_table) in
+    let passed_table : TableFor (record { columns = s.args.columns.now; rows = s.args.rows.now; list = s.args.sets.now; condition = s.args.condition.now; text = s.args.text.now; out = s.args.out.now; used = s.args.used }) ≡ never = ap (λ x. TableStop x (record { columns = s.args.columns.now; rows = s.args.rows.now; list = s.args.sets.now; condition = s.args.condition.now; text = s.args.text.now; out = s.args.out.now; used = s.args.used })) (sym c.are_sets.ensures) ∙ told_sound _ _ c.in_default.is c.check_table-table.ensures in
+    let passed : PassedBy (are_sets c.args.sets.now) (record { columns = s.args.columns.now; rows = s.args.rows.now; list = s.args.sets.now; condition = s.args.condition.now; text = s.args.text.now; out = s.args.out.now; used = s.args.used }) = table_passed _ _ _ _ _ _ (passed_table) in
     passed_asks _ _ passed (length-replicate {A = ℕ} 4096 0)
 
 pub write_all-requires : goal.write_all-requires
 write_all-requires c =
-    let passed_table : TableFor (asked c) ≡ never = ap (λ x. TableStop x (asked c)) (sym c.are_sets.ensures) ∙ told_sound _ _ c.in_default.is c.check_table-table.ensures in
-    let passed : PassedBy (are_sets c.args.sets.now) (asked c) = table_passed _ _ _ _ _ _ (passed_table) in
-    let passed_sets : SetsFor (asked c) ≡ never = told_sound _ _ c.in_default-wrong.is (c.check_sets-wrong.ensures _ (stored_length (asked c) (passed))) in
-    update_asks (asked c) passed passed_sets _ (c.mark_table.auto.marks ∙ length-replicate {A = ℕ} 4096 0)
+    let passed_table : TableFor (record { columns = s.args.columns.now; rows = s.args.rows.now; list = s.args.sets.now; condition = s.args.condition.now; text = s.args.text.now; out = s.args.out.now; used = s.args.used }) ≡ never = ap (λ x. TableStop x (record { columns = s.args.columns.now; rows = s.args.rows.now; list = s.args.sets.now; condition = s.args.condition.now; text = s.args.text.now; out = s.args.out.now; used = s.args.used })) (sym c.are_sets.ensures) ∙ told_sound _ _ c.in_default.is c.check_table-table.ensures in
+    let passed : PassedBy (are_sets c.args.sets.now) (record { columns = s.args.columns.now; rows = s.args.rows.now; list = s.args.sets.now; condition = s.args.condition.now; text = s.args.text.now; out = s.args.out.now; used = s.args.used }) = table_passed _ _ _ _ _ _ (passed_table) in
+    let passed_sets : SetsFor (record { columns = s.args.columns.now; rows = s.args.rows.now; list = s.args.sets.now; condition = s.args.condition.now; text = s.args.text.now; out = s.args.out.now; used = s.args.used }) ≡ never = told_sound _ _ c.in_default-wrong.is (c.check_sets-wrong.ensures _ (stored_length (record { columns = s.args.columns.now; rows = s.args.rows.now; list = s.args.sets.now; condition = s.args.condition.now; text = s.args.text.now; out = s.args.out.now; used = s.args.used }) (passed))) in
+    update_asks (record { columns = s.args.columns.now; rows = s.args.rows.now; list = s.args.sets.now; condition = s.args.condition.now; text = s.args.text.now; out = s.args.out.now; used = s.args.used }) passed passed_sets _ (c.mark_table.auto.marks ∙ length-replicate {A = ℕ} 4096 0)
 
 pub returns-in-Refused-mark_table : goal.returns-in-Refused-mark_table
 returns-in-Refused-mark_table c =
-    let passed_table : TableFor (asked c) ≡ never = ap (λ x. TableStop x (asked c)) (sym c.are_sets.ensures) ∙ told_sound _ _ c.in_default.is c.check_table-table.ensures in
-    let passed : PassedBy (are_sets c.args.sets.now) (asked c) = table_passed _ _ _ _ _ _ (passed_table) in
-    let passed_sets : SetsFor (asked c) ≡ never = told_sound _ _ c.in_default-wrong.is (c.check_sets-wrong.ensures _ (stored_length (asked c) (passed))) in
-    (update_refused (asked c) passed_table passed_sets _ _ _ _ c.mark_table.ensures _ c.in-Refused-mark_table.is, (c.mark_table.ensures.kept, c.mark_table.ensures.alone))
+    let passed_table : TableFor (record { columns = s.args.columns.now; rows = s.args.rows.now; list = s.args.sets.now; condition = s.args.condition.now; text = s.args.text.now; out = s.args.out.now; used = s.args.used }) ≡ never = ap (λ x. TableStop x (record { columns = s.args.columns.now; rows = s.args.rows.now; list = s.args.sets.now; condition = s.args.condition.now; text = s.args.text.now; out = s.args.out.now; used = s.args.used })) (sym c.are_sets.ensures) ∙ told_sound _ _ c.in_default.is c.check_table-table.ensures in
+    let passed : PassedBy (are_sets c.args.sets.now) (record { columns = s.args.columns.now; rows = s.args.rows.now; list = s.args.sets.now; condition = s.args.condition.now; text = s.args.text.now; out = s.args.out.now; used = s.args.used }) = table_passed _ _ _ _ _ _ (passed_table) in
+    let passed_sets : SetsFor (record { columns = s.args.columns.now; rows = s.args.rows.now; list = s.args.sets.now; condition = s.args.condition.now; text = s.args.text.now; out = s.args.out.now; used = s.args.used }) ≡ never = told_sound _ _ c.in_default-wrong.is (c.check_sets-wrong.ensures _ (stored_length (record { columns = s.args.columns.now; rows = s.args.rows.now; list = s.args.sets.now; condition = s.args.condition.now; text = s.args.text.now; out = s.args.out.now; used = s.args.used }) (passed))) in
+    (update_refused (record { columns = s.args.columns.now; rows = s.args.rows.now; list = s.args.sets.now; condition = s.args.condition.now; text = s.args.text.now; out = s.args.out.now; used = s.args.used }) passed_table passed_sets _ _ _ _ c.mark_table.ensures _ c.in-Refused-mark_table.is, (c.mark_table.ensures.kept, c.mark_table.ensures.alone))
 
 pub returns-in-Rows : goal.returns-in-Rows
 returns-in-Rows c =
-    let passed_table : TableFor (asked c) ≡ never = ap (λ x. TableStop x (asked c)) (sym c.are_sets.ensures) ∙ told_sound _ _ c.in_default.is c.check_table-table.ensures in
-    let passed : PassedBy (are_sets c.args.sets.now) (asked c) = table_passed _ _ _ _ _ _ (passed_table) in
-    let passed_sets : SetsFor (asked c) ≡ never = told_sound _ _ c.in_default-wrong.is (c.check_sets-wrong.ensures _ (stored_length (asked c) (passed))) in
-    (update_written (asked c) passed_table passed_sets _ _ _ _ c.mark_table.ensures _ c.in-Rows.is _ _ c.write_all.ensures, (c.mark_table.ensures.kept, c.mark_table.ensures.alone))
+    let passed_table : TableFor (record { columns = s.args.columns.now; rows = s.args.rows.now; list = s.args.sets.now; condition = s.args.condition.now; text = s.args.text.now; out = s.args.out.now; used = s.args.used }) ≡ never = ap (λ x. TableStop x (record { columns = s.args.columns.now; rows = s.args.rows.now; list = s.args.sets.now; condition = s.args.condition.now; text = s.args.text.now; out = s.args.out.now; used = s.args.used })) (sym c.are_sets.ensures) ∙ told_sound _ _ c.in_default.is c.check_table-table.ensures in
+    let passed : PassedBy (are_sets c.args.sets.now) (record { columns = s.args.columns.now; rows = s.args.rows.now; list = s.args.sets.now; condition = s.args.condition.now; text = s.args.text.now; out = s.args.out.now; used = s.args.used }) = table_passed _ _ _ _ _ _ (passed_table) in
+    let passed_sets : SetsFor (record { columns = s.args.columns.now; rows = s.args.rows.now; list = s.args.sets.now; condition = s.args.condition.now; text = s.args.text.now; out = s.args.out.now; used = s.args.used }) ≡ never = told_sound _ _ c.in_default-wrong.is (c.check_sets-wrong.ensures _ (stored_length (record { columns = s.args.columns.now; rows = s.args.rows.now; list = s.args.sets.now; condition = s.args.condition.now; text = s.args.text.now; out = s.args.out.now; used = s.args.used }) (passed))) in
+    (update_written (record { columns = s.args.columns.now; rows = s.args.rows.now; list = s.args.sets.now; condition = s.args.condition.now; text = s.args.text.now; out = s.args.out.now; used = s.args.used }) passed_table passed_sets _ _ _ _ c.mark_table.ensures _ c.in-Rows.is _ _ c.write_all.ensures, (c.mark_table.ensures.kept, c.mark_table.ensures.alone))

@@ -17,19 +17,19 @@ pub loop-i-init : goal.loop-i-init
 loop-i-init c = writing_start _ _ _ _
 
 pub overflow_mul-start : goal.overflow_mul-start
-overflow_mul-start c = omega (arith, ends c, c.ranges.0)
+overflow_mul-start c = omega (arith, ends c, c.well_formed.0)
 
 pub overflow_add-start : goal.overflow_add-start
-overflow_add-start c = omega (arith, ends c, c.ranges.0)
+overflow_add-start c = omega (arith, ends c, c.well_formed.0)
 
 pub offset_bounds-rows-start : goal.offset_bounds-rows-start
-offset_bounds-rows-start c = omega (arith, ends c, c.ranges.0)
+offset_bounds-rows-start c = omega (arith, ends c, c.well_formed.0)
 
 pub slice_bounds-write_row-end : goal.slice_bounds-write_row-end
 slice_bounds-write_row-end c = ends c
 
 pub offset_bounds-marks-i : goal.offset_bounds-marks-i
-offset_bounds-marks-i c = omega (arith, c.requires.0.marked, c.ranges.1.1.0)
+offset_bounds-marks-i c = omega (arith, c.requires.0.marked, c.well_formed.1.1.0)
 
 pub bounds-marks-i : goal.bounds-marks-i
 bounds-marks-i c = omega (arith, c.requires.0.marked)
