@@ -4,12 +4,7 @@ use Prim.Native.Nat.{◌-◌, ◌<◌}
 use native.Mathlib.Nat.{pos_of_ne-zero}
 use Rattle.forms.proofs.Scanning.{scan_start, scan_full, step_asks, scan_refused, scan_less, scan_more, scan_none, scan_many, scan_one}
 use native.Mathlib.Omega.{arith}
-use Rattle.forms.proofs.scan.Tie as tie
 use Rattle.forms.proofs.scan.Goals as goal
-
--- there is room in the tables for one node more
-room : (c : tie.After-known-told2 invariant-loop decreases-loop) → c.before.before.before.before.before.before.before.before.loop.n < 64
-room c = (step_asks _ _ _ _ _ _ _ _ c.before.before.before.before.before.before.before.before.loop.invariant c.before.before.before.before.before.before.before.loop-test.true c.before.before.before.before.before.before.if1.false).1.0
 
 pub loop-at-init : goal.loop-at-init
 loop-at-init c = scan_start _ _ _ _ _ _ c.requires refl refl
@@ -30,25 +25,39 @@ pub returns-in-Refused : goal.returns-in-Refused
 returns-in-Refused c = scan_refused _ _ _ _ _ _ _ _ c.loop-at.invariant c.loop-at-test.true c.if-n-eq64.false _ c.scan_node-step.ensures.0 c.scan_node-step.ensures.1 _ c.in-Refused.is
 
 pub offset_bounds-nodes-n : goal.offset_bounds-nodes-n
-offset_bounds-nodes-n c = omega (arith, room c, c.loop-at.invariant.long)
+offset_bounds-nodes-n c =
+    let room : c.loop-at.n < 64 = (step_asks _ _ _ _ _ _ _ _ c.loop-at.invariant c.loop-at-test.true c.if-n-eq64.false).1.0 in
+    omega (arith, room, c.loop-at.invariant.long)
 
 pub bounds-nodes-n : goal.bounds-nodes-n
-bounds-nodes-n c = omega (arith, room c, c.loop-at.invariant.long)
+bounds-nodes-n c =
+    let room : c.loop-at.n < 64 = (step_asks _ _ _ _ _ _ _ _ c.loop-at.invariant c.loop-at-test.true c.if-n-eq64.false).1.0 in
+    omega (arith, room, c.loop-at.invariant.long)
 
 pub offset_bounds-starts-n : goal.offset_bounds-starts-n
-offset_bounds-starts-n c = omega (arith, room c)
+offset_bounds-starts-n c =
+    let room : c.loop-at.n < 64 = (step_asks _ _ _ _ _ _ _ _ c.loop-at.invariant c.loop-at-test.true c.if-n-eq64.false).1.0 in
+    omega (arith, room)
 
 pub bounds-starts-n : goal.bounds-starts-n
-bounds-starts-n c = omega (arith, room c)
+bounds-starts-n c =
+    let room : c.loop-at.n < 64 = (step_asks _ _ _ _ _ _ _ _ c.loop-at.invariant c.loop-at-test.true c.if-n-eq64.false).1.0 in
+    omega (arith, room)
 
 pub offset_bounds-deeps-n : goal.offset_bounds-deeps-n
-offset_bounds-deeps-n c = omega (arith, room c)
+offset_bounds-deeps-n c =
+    let room : c.loop-at.n < 64 = (step_asks _ _ _ _ _ _ _ _ c.loop-at.invariant c.loop-at-test.true c.if-n-eq64.false).1.0 in
+    omega (arith, room)
 
 pub bounds-deeps-n : goal.bounds-deeps-n
-bounds-deeps-n c = omega (arith, room c)
+bounds-deeps-n c =
+    let room : c.loop-at.n < 64 = (step_asks _ _ _ _ _ _ _ _ c.loop-at.invariant c.loop-at-test.true c.if-n-eq64.false).1.0 in
+    omega (arith, room)
 
 pub overflow_add-n : goal.overflow_add-n
-overflow_add-n c = omega (arith, room c)
+overflow_add-n c =
+    let room : c.loop-at.n < 64 = (step_asks _ _ _ _ _ _ _ _ c.loop-at.invariant c.loop-at-test.true c.if-n-eq64.false).1.0 in
+    omega (arith, room)
 
 pub loop-at-smaller : goal.loop-at-smaller
 loop-at-smaller c = scan_less _ _ _ _ _ _ _ _ c.loop-at.invariant c.loop-at-test.true c.if-n-eq64.false _ c.scan_node-step.ensures.0 c.scan_node-step.ensures.1 _ _ _ _ c.in-Took.is

@@ -6,12 +6,7 @@ use lib.ListN.{length}
 use Rattle.slices.specs.Splice.{Wrote}
 use Rattle.slices.proofs.Splice.{copying_start}
 use Rattle.projecting.proofs.Listing.{list_sound, all_columns, some_length, project_turn, project_end}
-use Rattle.projecting.proofs.project.Tie as tie
 use Rattle.projecting.proofs.project.Goals as goal
-
--- all the list's entries fit
-fits : (c : tie.At-loop invariant-loop decreases-loop) → c.before.before.before.before.before.args.at + length c.before.before.before.before.before.args.list.now ≤ length c.before.before.before.before.before.args.out.now
-fits c = rw (← some_length c.before.before.before.before.before.args.list.now c.before.before.before.before.before.args.row.now c.before.if1.false) c.before.before.before.before.before.requires.1
 
 pub copy_words-requires : goal.copy_words-requires
 copy_words-requires c = subst (λ l. c.args.at + length l ≤ length c.args.out.now) (sym (all_columns c.args.list.now c.args.row.now c.if-list-eq0.true)) c.requires.1
@@ -29,19 +24,27 @@ pub bounds-row-list : goal.bounds-row-list
 bounds-row-list c = list_sound _ _ _ c.requires.0 _ c.loop-i-test.true
 
 pub overflow_add-out : goal.overflow_add-out
-overflow_add-out c = omega (arith, fits c, c.well_formed.1.1.0)
+overflow_add-out c =
+    let fits : c.args.at + length c.args.list.now ≤ length c.args.out.now = rw (← some_length c.args.list.now c.args.row.now c.if-list-eq0.false) c.requires.1 in
+    omega (arith, fits, c.well_formed.1.1.0)
 
 pub offset_bounds-out-at : goal.offset_bounds-out-at
-offset_bounds-out-at c = omega (arith, fits c, c.well_formed.1.1.0)
+offset_bounds-out-at c =
+    let fits : c.args.at + length c.args.list.now ≤ length c.args.out.now = rw (← some_length c.args.list.now c.args.row.now c.if-list-eq0.false) c.requires.1 in
+    omega (arith, fits, c.well_formed.1.1.0)
 
 pub bounds-out-at : goal.bounds-out-at
-bounds-out-at c = omega (arith, fits c, c.loop-i.invariant.long)
+bounds-out-at c =
+    let fits : c.args.at + length c.args.list.now ≤ length c.args.out.now = rw (← some_length c.args.list.now c.args.row.now c.if-list-eq0.false) c.requires.1 in
+    omega (arith, fits, c.loop-i.invariant.long)
 
 pub loop-i-preserved : goal.loop-i-preserved
 loop-i-preserved c = project_turn c.args.list.now c.args.row.now _ _ c.if-list-eq0.false c.requires.1 _ _ c.loop-i.invariant c.loop-i-test.true
 
 pub overflow_add-result : goal.overflow_add-result
-overflow_add-result c = omega (arith, fits c, c.well_formed.1.1.0)
+overflow_add-result c =
+    let fits : c.args.at + length c.args.list.now ≤ length c.args.out.now = rw (← some_length c.args.list.now c.args.row.now c.if-list-eq0.false) c.requires.1 in
+    omega (arith, fits, c.well_formed.1.1.0)
 
 pub shape_of-out : goal.shape_of-out
 shape_of-out c = c.loop-i.invariant.long

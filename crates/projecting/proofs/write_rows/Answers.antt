@@ -5,18 +5,15 @@ use lib.ListN.{length}
 use borrow.Author.Tests.{ne_eqb}
 use Rattle.marking.proofs.Marking.{row_inside}
 use Rattle.projecting.proofs.Turns.{writing_start, writing_skip, writing_end, project_asks, project_wrote}
-use Rattle.projecting.proofs.write_rows.Tie as tie
 use Rattle.projecting.proofs.write_rows.Goals as goal
-
--- the row that is read ends within the rows
-ends : (c : tie.In-loop invariant-loop decreases-loop) → c.before.loop.i * c.before.before.before.before.before.before.args.width + c.before.before.before.before.before.before.args.width ≤ length c.before.before.before.before.before.before.args.rows.now
-ends c = omega (arith, row_inside c.before.before.before.before.before.before.args.n c.before.before.before.before.before.before.args.width c.before.loop.i c.loop-test.true, c.before.before.before.before.before.before.requires.0.whole)
 
 pub loop-i-init : goal.loop-i-init
 loop-i-init c = writing_start _ _ _ _
 
 pub overflow_mul-start : goal.overflow_mul-start
-overflow_mul-start c = omega (arith, ends c, c.well_formed.0)
+overflow_mul-start c =
+    let ends : c.loop-i.i * c.args.width + c.args.width ≤ length c.args.rows.now = omega (arith, row_inside c.args.n c.args.width c.loop-i.i c.loop-i-test.true, c.requires.0.whole) in
+    omega (arith, ends, c.well_formed.0)
 
 pub offset_bounds-marks-i : goal.offset_bounds-marks-i
 offset_bounds-marks-i c = omega (arith, c.requires.0.marked, c.well_formed.1.1.0)
@@ -31,13 +28,19 @@ pub loop-i-preserved-then-found-mark : goal.loop-i-preserved-then-found-mark
 loop-i-preserved-then-found-mark c = writing_skip _ _ _ _ _ _ _ c.loop-i.invariant c.requires.1 c.loop-i-test.true (ne_eqb _ _ c.if-found-mark.true)
 
 pub overflow_add-start : goal.overflow_add-start
-overflow_add-start c = omega (arith, ends c, c.well_formed.0)
+overflow_add-start c =
+    let ends : c.loop-i.i * c.args.width + c.args.width ≤ length c.args.rows.now = omega (arith, row_inside c.args.n c.args.width c.loop-i.i c.loop-i-test.true, c.requires.0.whole) in
+    omega (arith, ends, c.well_formed.0)
 
 pub offset_bounds-rows-start : goal.offset_bounds-rows-start
-offset_bounds-rows-start c = omega (arith, ends c, c.well_formed.0)
+offset_bounds-rows-start c =
+    let ends : c.loop-i.i * c.args.width + c.args.width ≤ length c.args.rows.now = omega (arith, row_inside c.args.n c.args.width c.loop-i.i c.loop-i-test.true, c.requires.0.whole) in
+    omega (arith, ends, c.well_formed.0)
 
 pub slice_bounds-project-end : goal.slice_bounds-project-end
-slice_bounds-project-end c = ends c
+slice_bounds-project-end c =
+    let ends : c.loop-i.i * c.args.width + c.args.width ≤ length c.args.rows.now = omega (arith, row_inside c.args.n c.args.width c.loop-i.i c.loop-i-test.true, c.requires.0.whole) in
+    ends
 
 pub project-at-requires : goal.project-at-requires
 project-at-requires c = project_asks c.requires.0 _ _ c.requires.1 c.loop-i.invariant c.loop-i-test.true c.if-found-mark.false

@@ -14,10 +14,6 @@ read : (c : tie.After-body-of invariant-loop decreases-loop)
     → LeafRead (length c.before.before.before.before.before.before.before.before.before.before.before.before.args.stored.now) c.before.before.before.before.before.before.before.before.before.before.before.before.args.b.now c.before.before.before.before.before.before.before.before.before.before.before.before.args.row.now c.before.before.before.before.before.before.before.before.loop.at c.before.before.before.before.before.wide.result c.before.before.leaf.result
 read c = c.before.before.leaf.ensures c.before.if3.false
 
--- its operands stand within the stack
-pair : (c : tie.Else4 invariant-loop decreases-loop) → (2 ≤ c.before.before.before.before.before.loop.n) × (c.before.before.before.before.before.loop.n ≤ 16)
-pair c = (c.if4.false, c.before.before.before.before.before.loop.invariant.few)
-
 pub loop-at-init : goal.loop-at-init
 loop-at-init c = run_start _ _ _ _ _ refl
 
@@ -53,13 +49,19 @@ pub returns-then-n-lt2 : goal.returns-then-n-lt2
 returns-then-n-lt2 c = λ n. absurd (n refl)
 
 pub overflow_sub-n : goal.overflow_sub-n
-overflow_sub-n c = omega (arith, (pair c).0, (pair c).1)
+overflow_sub-n c =
+    let pair : (2 ≤ c.loop-at.n) × (c.loop-at.n ≤ 16) = (c.if-n-lt2.false, c.loop-at.invariant.few) in
+    omega (arith, pair.0, pair.1)
 
 pub offset_bounds-stack-n-in-loop-at : goal.offset_bounds-stack-n-in-loop-at
-offset_bounds-stack-n-in-loop-at c = omega (arith, (pair c).0, (pair c).1)
+offset_bounds-stack-n-in-loop-at c =
+    let pair : (2 ≤ c.loop-at.n) × (c.loop-at.n ≤ 16) = (c.if-n-lt2.false, c.loop-at.invariant.few) in
+    omega (arith, pair.0, pair.1)
 
 pub bounds-stack-n-in-loop-at : goal.bounds-stack-n-in-loop-at
-bounds-stack-n-in-loop-at c = omega (arith, (pair c).0, (pair c).1)
+bounds-stack-n-in-loop-at c =
+    let pair : (2 ≤ c.loop-at.n) × (c.loop-at.n ≤ 16) = (c.if-n-lt2.false, c.loop-at.invariant.few) in
+    omega (arith, pair.0, pair.1)
 
 pub two-top-requires : goal.two-top-requires
 two-top-requires c = (left_fine _ _ _ _ _ _ _ _ c.loop-at.invariant c.loop-at-test.true _ c.wide-k.ensures.0 c.if-n-lt2.false, right_fine _ _ _ _ _ _ _ _ c.loop-at.invariant c.loop-at-test.true _ c.wide-k.ensures.0 c.if-n-lt2.false)
