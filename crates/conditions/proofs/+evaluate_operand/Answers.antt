@@ -1,0 +1,92 @@
+-- `conditions::evaluate` and `conditions::operand` meet their contracts, by recursion with falling depth: the measures are 2 * depth and
+-- 2 * depth + 1, so no call goes deeper than the depth that the first one is given. Each answer is one law of Walk. Assumes nothing.
+use borrow.Author.Rules.{scaled_Fits}
+use native.Mathlib.Omega.{arith}
+use mathlib.Core.Path.{sym, ◌∙◌}
+use lib.ListN.{get_or}
+use Rattle.conditions.specs.Table.{node_of}
+use Rattle.conditions.proofs.NodeKind.{node_low}
+use Rattle.conditions.proofs.Descent.{in_table, deep, sound_one, sound_two}
+use Rattle.conditions.proofs.Walk.{leaf_sound, leaf_answers, one_asks, one_refused, one_answers, left_asks, left_refused, left_decided, right_asks, right_refused, join_asks, two_answers, one_lies, left_lies, two_lies}
+use Rattle.conditions.proofs.Lying.{lies_refused, lies_leaf}
+use borrow.Fn.PlainCycle.{is}
+use Rattle.conditions.proofs.evaluate.Reads as evaluate
+use Rattle.conditions.proofs.+evaluate_operand.Goals as goal
+
+pub evaluate-offset_bounds-nodes-k : goal.evaluate-offset_bounds-nodes-k
+evaluate-offset_bounds-nodes-k t c = scaled_Fits _ _ 8 (in_table _ _ _ _ _ c.requires.1.sound) c.well_formed.1.0.1
+
+pub evaluate-bounds-nodes-k : goal.evaluate-bounds-nodes-k
+evaluate-bounds-nodes-k t c = in_table _ _ _ _ _ c.requires.1.sound
+
+pub evaluate-leaf-requires : goal.evaluate-leaf-requires
+evaluate-leaf-requires t c = leaf_sound _ _ _ _ _ _ _ _ c.requires.1 _ (sym c.node_of.ensures ∙ c.in-Leaf.is)
+
+pub evaluate-overflow_sub-k : goal.evaluate-overflow_sub-k
+evaluate-overflow_sub-k t c = (sound_one _ _ _ _ _ c.requires.1.sound (sym c.node_of.ensures ∙ c.in-One.is)).below
+
+pub evaluate-overflow_sub-depth : goal.evaluate-overflow_sub-depth
+evaluate-overflow_sub-depth t c = deep _ _ _ _ _ c.requires.1.sound
+
+pub evaluate-operand-a-requires : goal.evaluate-operand-a-requires
+evaluate-operand-a-requires t c = (omega (arith, c.requires.0, deep _ _ _ _ _ c.requires.1.sound), one_asks _ _ _ _ _ _ _ _ c.requires.1 _ (sym c.node_of.ensures ∙ c.in-One.is))
+
+pub evaluate-returns-in_default : goal.evaluate-returns-in_default
+evaluate-returns-in_default t c = (one_refused _ _ _ _ _ _ _ _ c.requires.1 _ (sym c.node_of.ensures ∙ c.in-One.is) _ _ c.in_default.keys2 c.operand-a.ensures.0, lies_refused c.args.top (node_of (get_or c.args.nodes.now c.args.k 0)) c.args.row.now c.operand-a.result c.in_default.keys2)
+
+pub evaluate-unary-requires : goal.evaluate-unary-requires
+evaluate-unary-requires t c = (sound_one _ _ _ _ _ c.requires.1.sound (sym c.node_of.ensures ∙ c.in-One.is)).known
+
+pub evaluate-overflow_sub-r : goal.evaluate-overflow_sub-r
+evaluate-overflow_sub-r t c = (sound_two _ _ _ _ _ c.requires.1.sound (sym c.node_of.ensures ∙ c.in-Two.is)).right_below
+
+pub evaluate-overflow_sub-depth-in-Two : goal.evaluate-overflow_sub-depth-in-Two
+evaluate-overflow_sub-depth-in-Two t c = deep _ _ _ _ _ c.requires.1.sound
+
+pub evaluate-operand-a-requires-in-Two : goal.evaluate-operand-a-requires-in-Two
+evaluate-operand-a-requires-in-Two t c = (omega (arith, c.requires.0, deep _ _ _ _ _ c.requires.1.sound), left_asks _ _ _ _ _ _ _ _ c.requires.1 _ _ (sym c.node_of.ensures ∙ c.in-Two.is))
+
+pub evaluate-returns-in_default-a : goal.evaluate-returns-in_default-a
+evaluate-returns-in_default-a t c = (left_refused _ _ _ _ _ _ _ _ c.requires.1 _ _ (sym c.node_of.ensures ∙ c.in-Two.is) _ _ c.in_default-a.keys2 c.operand-a-in-Two.ensures.0, lies_refused c.args.top (node_of (get_or c.args.nodes.now c.args.k 0)) c.args.row.now c.operand-a-in-Two.result c.in_default-a.keys2)
+
+pub evaluate-returns-then-decided : goal.evaluate-returns-then-decided
+evaluate-returns-then-decided t c = (left_decided _ _ _ _ _ _ _ _ c.requires.1 _ _ (sym c.node_of.ensures ∙ c.in-Two.is) _ _ _ (rw c.in-Gave-a.is at c.operand-a-in-Two.ensures.0) c.operand-a-in-Two.auto.text _ c.decided.ensures _ _ c.if-decided.true c.truth.ensures c.flag.ensures, left_lies _ _ _ _ _ _ _ _ c.requires.1 _ _ (sym c.node_of.ensures ∙ c.in-Two.is) _ _ _ (rw c.in-Gave-a.is at c.operand-a-in-Two.ensures.0) c.operand-a-in-Two.auto.text _ c.decided.ensures _ _ c.flag.ensures)
+
+pub evaluate-overflow_sub-depth-in-Two-2 : goal.evaluate-overflow_sub-depth-in-Two-2
+evaluate-overflow_sub-depth-in-Two-2 t c = deep _ _ _ _ _ c.requires.1.sound
+
+pub evaluate-operand-b-requires : goal.evaluate-operand-b-requires
+evaluate-operand-b-requires t c = (omega (arith, c.requires.0, deep _ _ _ _ _ c.requires.1.sound), right_asks _ _ _ _ _ _ _ _ c.requires.1 _ _ (sym c.node_of.ensures ∙ c.in-Two.is) _ _ _ (rw c.in-Gave-a.is at c.operand-a-in-Two.ensures.0) c.operand-a-in-Two.auto.text _ c.decided.ensures c.if-decided.false)
+
+pub evaluate-returns-in_default-b : goal.evaluate-returns-in_default-b
+evaluate-returns-in_default-b t c = (right_refused _ _ _ _ _ _ _ _ c.requires.1 _ _ (sym c.node_of.ensures ∙ c.in-Two.is) _ _ _ (rw c.in-Gave-a.is at c.operand-a-in-Two.ensures.0) c.operand-a-in-Two.auto.text _ c.decided.ensures c.if-decided.false _ _ c.operand-b.ensures.0 c.in_default-b.keys2, lies_refused c.args.top (node_of (get_or c.args.nodes.now c.args.k 0)) c.args.row.now c.operand-b.result c.in_default-b.keys2)
+
+pub evaluate-apply-requires : goal.evaluate-apply-requires
+evaluate-apply-requires t c = join_asks _ _ _ _ _ _ _ _ c.requires.1 _ _ (sym c.node_of.ensures ∙ c.in-Two.is) _ _ _ (rw c.in-Gave-a.is at c.operand-a-in-Two.ensures.0) c.operand-a-in-Two.auto.text _ c.decided.ensures c.if-decided.false _ _ c.operand-b.ensures.0 _ _ c.in-Gave-b.is c.operand-b.auto.text
+
+pub evaluate-returns-in-Leaf : goal.evaluate-returns-in-Leaf
+evaluate-returns-in-Leaf t c = (leaf_answers _ _ _ _ _ _ _ _ c.requires.1 _ _ (sym c.node_of.ensures ∙ c.in-Leaf.is) c.leaf.ensures, lies_leaf c.args.top _ _ _ _ _ c.args.top (sym c.node_of.ensures ∙ c.in-Leaf.is) c.leaf.ensures)
+
+pub evaluate-returns-in-Gave : goal.evaluate-returns-in-Gave
+evaluate-returns-in-Gave t c = (one_answers _ _ _ _ _ _ _ _ c.requires.1 _ (sym c.node_of.ensures ∙ c.in-One.is) _ _ _ _ (rw c.in-Gave.is at c.operand-a.ensures.0) c.unary.ensures c.operand-a.auto.text, one_lies _ _ _ _ _ _ _ _ c.requires.1 _ (sym c.node_of.ensures ∙ c.in-One.is) _ _ _ c.unary.result (rw c.in-Gave.is at c.operand-a.ensures.0) c.unary.ensures c.operand-a.auto.text)
+
+pub evaluate-returns-in-Gave-b : goal.evaluate-returns-in-Gave-b
+evaluate-returns-in-Gave-b t c = (two_answers _ _ _ _ _ _ _ _ c.requires.1 _ _ (sym c.node_of.ensures ∙ c.in-Two.is) _ _ _ (rw c.in-Gave-a.is at c.operand-a-in-Two.ensures.0) c.operand-a-in-Two.auto.text _ c.decided.ensures c.if-decided.false _ _ c.operand-b.ensures.0 _ _ c.in-Gave-b.is c.operand-b.auto.text _ _ c.apply.ensures, two_lies _ _ _ _ _ _ _ _ c.requires.1 _ _ (sym c.node_of.ensures ∙ c.in-Two.is) _ _ _ (rw c.in-Gave-a.is at c.operand-a-in-Two.ensures.0) c.operand-a-in-Two.auto.text _ c.decided.ensures c.if-decided.false _ _ c.operand-b.ensures.0 _ _ c.in-Gave-b.is c.operand-b.auto.text _ c.apply.result c.apply.ensures)
+
+pub operand-offset_bounds-nodes-k : goal.operand-offset_bounds-nodes-k
+operand-offset_bounds-nodes-k t c = scaled_Fits _ _ 8 (in_table _ _ _ _ _ c.requires.1.sound) c.well_formed.1.0.1
+
+pub operand-bounds-nodes-k : goal.operand-bounds-nodes-k
+operand-bounds-nodes-k t c = in_table _ _ _ _ _ c.requires.1.sound
+
+pub operand-leaf-requires : goal.operand-leaf-requires
+operand-leaf-requires t c = leaf_sound _ _ _ _ _ _ _ _ c.requires.1 _ (node_low _ c.if-word-lt1152921504606846976.true)
+
+pub operand-returns-then-word-lt1152921504606846976 : goal.operand-returns-then-word-lt1152921504606846976
+operand-returns-then-word-lt1152921504606846976 t c = (leaf_answers _ _ _ _ _ _ _ _ c.requires.1 _ _ (node_low _ c.if-word-lt1152921504606846976.true) c.leaf.ensures, lies_leaf c.args.top _ _ _ _ _ c.args.top (node_low _ c.if-word-lt1152921504606846976.true) c.leaf.ensures)
+
+pub operand-evaluate-requires : goal.operand-evaluate-requires
+operand-evaluate-requires t c = (omega (arith, c.requires.0), c.requires.1)
+
+pub operand-returns : goal.operand-returns
+operand-returns t c = c.evaluate.ensures

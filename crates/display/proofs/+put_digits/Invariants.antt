@@ -1,0 +1,5 @@
+-- The measure: each call goes less deep.
+use Rattle.display.proofs.+put_digits.Given as goal
+
+abbrev pub decreases-put_digits : goal.decreases-put_digits
+decreases-put_digits l = l.most
