@@ -7,8 +7,11 @@ ghost use Rattle.slices.specs.Splice.{piece};
 ghost use Rattle.replay.specs.Number.{Four, Read, eight_at};
 ghost use Rattle.replay.specs.Compare.{is_answer, is_written, rubbish_byte, rubbish_word, output_after, holds_text, is_word};
 
-use libc::{STDIN_FILENO, STDOUT_FILENO};
 use writing::Written;
+
+// Standard input and output, as the system numbers them.
+const STDIN: i32 = 0;
+const STDOUT: i32 = 1;
 
 // A slice of a case: its first byte, how many elements it has, and where the next part starts.
 #[derive(Clone, Copy)]
@@ -404,30 +407,30 @@ pub fn next_case(space: &mut [u8]) -> usize
     ensures { (result ≤ length space.new) × (length space.new ≡ length space.old) }
 {
     let mut head = [0u8; 4];
-    if io::read_full(STDIN_FILENO, &mut head) < 4 {
+    if io::read_full(STDIN, &mut head) < 4 {
         return 0;
     }
     let size = four(&head, 0) as usize;
     if space.len() < size {
         return 0;
     }
-    let got = io::read_full(STDIN_FILENO, &mut space[..size]);
+    let got = io::read_full(STDIN, &mut space[..size]);
     if got == size { size } else { 0 }
 }
 
 // `N cases, M differ`
 pub fn report(cases: u64, differ: u64) {
-    io::print_decimal(STDOUT_FILENO, cases);
-    io::write_all(STDOUT_FILENO, b" cases, ");
-    io::print_decimal(STDOUT_FILENO, differ);
-    io::write_all(STDOUT_FILENO, b" differ\n");
+    io::print_decimal(STDOUT, cases);
+    io::write_all(STDOUT, b" cases, ");
+    io::print_decimal(STDOUT, differ);
+    io::write_all(STDOUT, b" differ\n");
 }
 
 // `case N differs`
 fn tell(case: u64) {
-    io::write_all(STDOUT_FILENO, b"case ");
-    io::print_decimal(STDOUT_FILENO, case);
-    io::write_all(STDOUT_FILENO, b" differs\n");
+    io::write_all(STDOUT, b"case ");
+    io::print_decimal(STDOUT, case);
+    io::write_all(STDOUT, b" differs\n");
 }
 
 // 0 where the case of this number agrees; 1 where it differs, which is told.
