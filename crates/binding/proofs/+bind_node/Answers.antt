@@ -76,7 +76,7 @@ pub overflow_add-result-in-Two-2 : goal.overflow_add-result-in-Two-2
 overflow_add-result-in-Two-2 t c = let h = two_next c.requires.1.1 (sym c.node_of.ensures ∙ c.in-Two.is) _ _ c.bind_node-a-in-Two.ensures c.in-Bound-a.is c.bind_node-a-in-Two.auto.out _ _ c.bind_node-b.ensures c.in-Bound-b.is c.bind_node-b.auto.out in search rules
 
 pub returns-in-Leaf : goal.returns-in-Leaf
-returns-in-Leaf t c = λ s A. leaf_bound A (sym c.node_of.ensures ∙ c.in-Leaf.is) c.bind_leaf.new.1.1.1.1.0 c.bind_leaf.result c.bind_leaf.ensures
+returns-in-Leaf t c = λ s A. leaf_bound A (sym c.node_of.ensures ∙ c.in-Leaf.is) c.bind_leaf.new.out c.bind_leaf.result c.bind_leaf.ensures
 
 pub shape_of-out-in-Bound : goal.shape_of-out-in-Bound
 shape_of-out-in-Bound t c = simp length-set (omega (arith, c.bind_node-a.auto.out))

@@ -17,9 +17,9 @@ returns-in-Refused c = refused_is _ _ _ _ _ (before_stops c.args.condition.now c
 pub overflow_sub-n : goal.overflow_sub-n
 overflow_sub-n c =
     let passed : (before_stop s.args.columns.now (length s.args.text.now) s.args.used (length s.args.out.now) ≡ never) = told_sound _ _ c.in_default.is c.check_before-before.ensures in
-    let tabled : (Tabled s.args.condition.now s.args.columns.now s.args.text.now s.args.used s.args.out.now) c.scan-scanned.new.1.1.1.0 c.in-Table.n = record {
+    let tabled : (Tabled s.args.condition.now s.args.columns.now s.args.text.now s.args.used s.args.out.now) c.scan-scanned.new.nodes c.in-Table.n = record {
       passed = passed;
-      table = subst ((ScanIs s.args.used s.args.condition.now nodes x (parsed Named s.args.used s.args.condition.now)) c.scan-scanned.new.1.1.1.0) c.in-Table.is c.scan-scanned.ensures;
+      table = subst ((ScanIs s.args.used s.args.condition.now nodes x (parsed Named s.args.used s.args.condition.now)) c.scan-scanned.new.nodes) c.in-Table.is c.scan-scanned.ensures;
       long = c.scan-scanned.auto.nodes;
     } in
     some tabled
@@ -27,9 +27,9 @@ overflow_sub-n c =
 pub slice_bounds-bind_node-end-in-Table : goal.slice_bounds-bind_node-end-in-Table
 slice_bounds-bind_node-end-in-Table c =
     let passed : (before_stop s.args.columns.now (length s.args.text.now) s.args.used (length s.args.out.now) ≡ never) = told_sound _ _ c.in_default.is c.check_before-before.ensures in
-    let tabled : (Tabled s.args.condition.now s.args.columns.now s.args.text.now s.args.used s.args.out.now) c.scan-scanned.new.1.1.1.0 c.in-Table.n = record {
+    let tabled : (Tabled s.args.condition.now s.args.columns.now s.args.text.now s.args.used s.args.out.now) c.scan-scanned.new.nodes c.in-Table.n = record {
       passed = passed;
-      table = subst ((ScanIs s.args.used s.args.condition.now nodes x (parsed Named s.args.used s.args.condition.now)) c.scan-scanned.new.1.1.1.0) c.in-Table.is c.scan-scanned.ensures;
+      table = subst ((ScanIs s.args.used s.args.condition.now nodes x (parsed Named s.args.used s.args.condition.now)) c.scan-scanned.new.nodes) c.in-Table.is c.scan-scanned.ensures;
       long = c.scan-scanned.auto.nodes;
     } in
     stored_length tabled
@@ -37,9 +37,9 @@ slice_bounds-bind_node-end-in-Table c =
 pub bind_node-whole-requires : goal.bind_node-whole-requires
 bind_node-whole-requires c =
     let passed : (before_stop s.args.columns.now (length s.args.text.now) s.args.used (length s.args.out.now) ≡ never) = told_sound _ _ c.in_default.is c.check_before-before.ensures in
-    let tabled : (Tabled s.args.condition.now s.args.columns.now s.args.text.now s.args.used s.args.out.now) c.scan-scanned.new.1.1.1.0 c.in-Table.n = record {
+    let tabled : (Tabled s.args.condition.now s.args.columns.now s.args.text.now s.args.used s.args.out.now) c.scan-scanned.new.nodes c.in-Table.n = record {
       passed = passed;
-      table = subst ((ScanIs s.args.used s.args.condition.now nodes x (parsed Named s.args.used s.args.condition.now)) c.scan-scanned.new.1.1.1.0) c.in-Table.is c.scan-scanned.ensures;
+      table = subst ((ScanIs s.args.used s.args.condition.now nodes x (parsed Named s.args.used s.args.condition.now)) c.scan-scanned.new.nodes) c.in-Table.is c.scan-scanned.ensures;
       long = c.scan-scanned.auto.nodes;
     } in
     tree_asks tabled _ refl
@@ -47,58 +47,58 @@ bind_node-whole-requires c =
 pub slice_bounds-space-end : goal.slice_bounds-space-end
 slice_bounds-space-end c =
     let passed : (before_stop s.args.columns.now (length s.args.text.now) s.args.used (length s.args.out.now) ≡ never) = told_sound _ _ c.in_default.is c.check_before-before.ensures in
-    let tabled : (Tabled s.args.condition.now s.args.columns.now s.args.text.now s.args.used s.args.out.now) c.scan-scanned.new.1.1.1.0 c.in-Table.n = record {
+    let tabled : (Tabled s.args.condition.now s.args.columns.now s.args.text.now s.args.used s.args.out.now) c.scan-scanned.new.nodes c.in-Table.n = record {
       passed = passed;
-      table = subst ((ScanIs s.args.used s.args.condition.now nodes x (parsed Named s.args.used s.args.condition.now)) c.scan-scanned.new.1.1.1.0) c.in-Table.is c.scan-scanned.ensures;
+      table = subst ((ScanIs s.args.used s.args.condition.now nodes x (parsed Named s.args.used s.args.condition.now)) c.scan-scanned.new.nodes) c.in-Table.is c.scan-scanned.ensures;
       long = c.scan-scanned.auto.nodes;
     } in
-    let bound : (Whole s.args.condition.now s.args.columns.now s.args.text.now s.args.used s.args.out.now) c.bind_node-whole.new.1.1.1.1.1.1.0 c.in-Bound.end = bound_whole (tabled) _ refl _ _ c.bind_node-whole.ensures _ _ c.in-Bound.is c.bind_node-whole.auto.out in
+    let bound : (Whole s.args.condition.now s.args.columns.now s.args.text.now s.args.used s.args.out.now) c.bind_node-whole.new.out c.in-Bound.end = bound_whole (tabled) _ refl _ _ c.bind_node-whole.ensures _ _ c.in-Bound.is c.bind_node-whole.auto.out in
     bound.inside
 
 pub slice_bounds-write_bytes-end : goal.slice_bounds-write_bytes-end
 slice_bounds-write_bytes-end c =
     let passed : (before_stop s.args.columns.now (length s.args.text.now) s.args.used (length s.args.out.now) ≡ never) = told_sound _ _ c.in_default.is c.check_before-before.ensures in
-    let tabled : (Tabled s.args.condition.now s.args.columns.now s.args.text.now s.args.used s.args.out.now) c.scan-scanned.new.1.1.1.0 c.in-Table.n = record {
+    let tabled : (Tabled s.args.condition.now s.args.columns.now s.args.text.now s.args.used s.args.out.now) c.scan-scanned.new.nodes c.in-Table.n = record {
       passed = passed;
-      table = subst ((ScanIs s.args.used s.args.condition.now nodes x (parsed Named s.args.used s.args.condition.now)) c.scan-scanned.new.1.1.1.0) c.in-Table.is c.scan-scanned.ensures;
+      table = subst ((ScanIs s.args.used s.args.condition.now nodes x (parsed Named s.args.used s.args.condition.now)) c.scan-scanned.new.nodes) c.in-Table.is c.scan-scanned.ensures;
       long = c.scan-scanned.auto.nodes;
     } in
-    let bound : (Whole s.args.condition.now s.args.columns.now s.args.text.now s.args.used s.args.out.now) c.bind_node-whole.new.1.1.1.1.1.1.0 c.in-Bound.end = bound_whole (tabled) _ refl _ _ c.bind_node-whole.ensures _ _ c.in-Bound.is c.bind_node-whole.auto.out in
+    let bound : (Whole s.args.condition.now s.args.columns.now s.args.text.now s.args.used s.args.out.now) c.bind_node-whole.new.out c.in-Bound.end = bound_whole (tabled) _ refl _ _ c.bind_node-whole.ensures _ _ c.in-Bound.is c.bind_node-whole.auto.out in
     end_is bound
 
 pub write_bytes-requires : goal.write_bytes-requires
 write_bytes-requires c =
     let passed : (before_stop s.args.columns.now (length s.args.text.now) s.args.used (length s.args.out.now) ≡ never) = told_sound _ _ c.in_default.is c.check_before-before.ensures in
-    let tabled : (Tabled s.args.condition.now s.args.columns.now s.args.text.now s.args.used s.args.out.now) c.scan-scanned.new.1.1.1.0 c.in-Table.n = record {
+    let tabled : (Tabled s.args.condition.now s.args.columns.now s.args.text.now s.args.used s.args.out.now) c.scan-scanned.new.nodes c.in-Table.n = record {
       passed = passed;
-      table = subst ((ScanIs s.args.used s.args.condition.now nodes x (parsed Named s.args.used s.args.condition.now)) c.scan-scanned.new.1.1.1.0) c.in-Table.is c.scan-scanned.ensures;
+      table = subst ((ScanIs s.args.used s.args.condition.now nodes x (parsed Named s.args.used s.args.condition.now)) c.scan-scanned.new.nodes) c.in-Table.is c.scan-scanned.ensures;
       long = c.scan-scanned.auto.nodes;
     } in
-    let bound : (Whole s.args.condition.now s.args.columns.now s.args.text.now s.args.used s.args.out.now) c.bind_node-whole.new.1.1.1.1.1.1.0 c.in-Bound.end = bound_whole (tabled) _ refl _ _ c.bind_node-whole.ensures _ _ c.in-Bound.is c.bind_node-whole.auto.out in
+    let bound : (Whole s.args.condition.now s.args.columns.now s.args.text.now s.args.used s.args.out.now) c.bind_node-whole.new.out c.in-Bound.end = bound_whole (tabled) _ refl _ _ c.bind_node-whole.ensures _ _ c.in-Bound.is c.bind_node-whole.auto.out in
     end_fits bound
 
 pub returns-in-Denied : goal.returns-in-Denied
 returns-in-Denied c =
     let passed : (before_stop s.args.columns.now (length s.args.text.now) s.args.used (length s.args.out.now) ≡ never) = told_sound _ _ c.in_default.is c.check_before-before.ensures in
-    refused_is _ _ _ _ _ (form_stops c.args.condition.now c.args.columns.now _ (length c.args.text.now) c.args.used (length c.args.out.now) passed c.scan-scanned.new.1.1.1.0 _ c.scan-scanned.ensures c.in-Denied.r c.in-Denied.is)
+    refused_is _ _ _ _ _ (form_stops c.args.condition.now c.args.columns.now _ (length c.args.text.now) c.args.used (length c.args.out.now) passed c.scan-scanned.new.nodes _ c.scan-scanned.ensures c.in-Denied.r c.in-Denied.is)
 
 pub returns-in-Refused-whole : goal.returns-in-Refused-whole
 returns-in-Refused-whole c =
     let passed : (before_stop s.args.columns.now (length s.args.text.now) s.args.used (length s.args.out.now) ≡ never) = told_sound _ _ c.in_default.is c.check_before-before.ensures in
-    let tabled : (Tabled s.args.condition.now s.args.columns.now s.args.text.now s.args.used s.args.out.now) c.scan-scanned.new.1.1.1.0 c.in-Table.n = record {
+    let tabled : (Tabled s.args.condition.now s.args.columns.now s.args.text.now s.args.used s.args.out.now) c.scan-scanned.new.nodes c.in-Table.n = record {
       passed = passed;
-      table = subst ((ScanIs s.args.used s.args.condition.now nodes x (parsed Named s.args.used s.args.condition.now)) c.scan-scanned.new.1.1.1.0) c.in-Table.is c.scan-scanned.ensures;
+      table = subst ((ScanIs s.args.used s.args.condition.now nodes x (parsed Named s.args.used s.args.condition.now)) c.scan-scanned.new.nodes) c.in-Table.is c.scan-scanned.ensures;
       long = c.scan-scanned.auto.nodes;
     } in
-    refused_is _ _ _ _ _ (names_stops tabled _ refl c.bind_node-whole.new.1.1.1.1.1.1.0 _ c.bind_node-whole.ensures c.in-Refused-whole.r c.in-Refused-whole.is)
+    refused_is _ _ _ _ _ (names_stops tabled _ refl c.bind_node-whole.new.out _ c.bind_node-whole.ensures c.in-Refused-whole.r c.in-Refused-whole.is)
 
 pub returns-in-Bound : goal.returns-in-Bound
 returns-in-Bound c =
     let passed : (before_stop s.args.columns.now (length s.args.text.now) s.args.used (length s.args.out.now) ≡ never) = told_sound _ _ c.in_default.is c.check_before-before.ensures in
-    let tabled : (Tabled s.args.condition.now s.args.columns.now s.args.text.now s.args.used s.args.out.now) c.scan-scanned.new.1.1.1.0 c.in-Table.n = record {
+    let tabled : (Tabled s.args.condition.now s.args.columns.now s.args.text.now s.args.used s.args.out.now) c.scan-scanned.new.nodes c.in-Table.n = record {
       passed = passed;
-      table = subst ((ScanIs s.args.used s.args.condition.now nodes x (parsed Named s.args.used s.args.condition.now)) c.scan-scanned.new.1.1.1.0) c.in-Table.is c.scan-scanned.ensures;
+      table = subst ((ScanIs s.args.used s.args.condition.now nodes x (parsed Named s.args.used s.args.condition.now)) c.scan-scanned.new.nodes) c.in-Table.is c.scan-scanned.ensures;
       long = c.scan-scanned.auto.nodes;
     } in
-    let bound : (Whole s.args.condition.now s.args.columns.now s.args.text.now s.args.used s.args.out.now) c.bind_node-whole.new.1.1.1.1.1.1.0 c.in-Bound.end = bound_whole (tabled) _ refl _ _ c.bind_node-whole.ensures _ _ c.in-Bound.is c.bind_node-whole.auto.out in
+    let bound : (Whole s.args.condition.now s.args.columns.now s.args.text.now s.args.used s.args.out.now) c.bind_node-whole.new.out c.in-Bound.end = bound_whole (tabled) _ refl _ _ c.bind_node-whole.ensures _ _ c.in-Bound.is c.bind_node-whole.auto.out in
     bind_written bound _ _ c.write_bytes.ensures

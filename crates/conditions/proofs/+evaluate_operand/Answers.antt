@@ -32,7 +32,7 @@ pub evaluate-operand-a-requires : goal.evaluate-operand-a-requires
 evaluate-operand-a-requires t c = (omega (arith, c.requires.0, deep _ _ _ _ _ c.requires.1.sound), one_asks _ _ _ _ _ _ _ _ c.requires.1 _ (sym c.node_of.ensures ∙ c.in-One.is))
 
 pub evaluate-returns-in_default : goal.evaluate-returns-in_default
-evaluate-returns-in_default t c = (one_refused _ _ _ _ _ _ _ _ c.requires.1 _ (sym c.node_of.ensures ∙ c.in-One.is) _ _ c.in_default.keys2 c.operand-a.ensures.0, lies_refused c.args.top (node_of (get_or c.args.nodes.now c.args.k 0)) c.args.row.now c.operand-a.result c.in_default.keys2)
+evaluate-returns-in_default t c = (one_refused _ _ _ _ _ _ _ _ c.requires.1 _ (sym c.node_of.ensures ∙ c.in-One.is) _ _ c.in_default.in_default-own.keys2 c.operand-a.ensures.0, lies_refused c.args.top (node_of (get_or c.args.nodes.now c.args.k 0)) c.args.row.now c.operand-a.result c.in_default.in_default-own.keys2)
 
 pub evaluate-unary-requires : goal.evaluate-unary-requires
 evaluate-unary-requires t c = (sound_one _ _ _ _ _ c.requires.1.sound (sym c.node_of.ensures ∙ c.in-One.is)).known
@@ -47,7 +47,7 @@ pub evaluate-operand-a-requires-in-Two : goal.evaluate-operand-a-requires-in-Two
 evaluate-operand-a-requires-in-Two t c = (omega (arith, c.requires.0, deep _ _ _ _ _ c.requires.1.sound), left_asks _ _ _ _ _ _ _ _ c.requires.1 _ _ (sym c.node_of.ensures ∙ c.in-Two.is))
 
 pub evaluate-returns-in_default-a : goal.evaluate-returns-in_default-a
-evaluate-returns-in_default-a t c = (left_refused _ _ _ _ _ _ _ _ c.requires.1 _ _ (sym c.node_of.ensures ∙ c.in-Two.is) _ _ c.in_default-a.keys2 c.operand-a-in-Two.ensures.0, lies_refused c.args.top (node_of (get_or c.args.nodes.now c.args.k 0)) c.args.row.now c.operand-a-in-Two.result c.in_default-a.keys2)
+evaluate-returns-in_default-a t c = (left_refused _ _ _ _ _ _ _ _ c.requires.1 _ _ (sym c.node_of.ensures ∙ c.in-Two.is) _ _ c.in_default-a.in_default-a-own.keys2 c.operand-a-in-Two.ensures.0, lies_refused c.args.top (node_of (get_or c.args.nodes.now c.args.k 0)) c.args.row.now c.operand-a-in-Two.result c.in_default-a.in_default-a-own.keys2)
 
 pub evaluate-returns-then-decided : goal.evaluate-returns-then-decided
 evaluate-returns-then-decided t c = (left_decided _ _ _ _ _ _ _ _ c.requires.1 _ _ (sym c.node_of.ensures ∙ c.in-Two.is) _ _ _ (rw c.in-Gave-a.is at c.operand-a-in-Two.ensures.0) c.operand-a-in-Two.auto.text _ c.decided.ensures _ _ c.if-decided.true c.truth.ensures c.flag.ensures, left_lies _ _ _ _ _ _ _ _ c.requires.1 _ _ (sym c.node_of.ensures ∙ c.in-Two.is) _ _ _ (rw c.in-Gave-a.is at c.operand-a-in-Two.ensures.0) c.operand-a-in-Two.auto.text _ c.decided.ensures _ _ c.flag.ensures)
@@ -59,7 +59,7 @@ pub evaluate-operand-b-requires : goal.evaluate-operand-b-requires
 evaluate-operand-b-requires t c = (omega (arith, c.requires.0, deep _ _ _ _ _ c.requires.1.sound), right_asks _ _ _ _ _ _ _ _ c.requires.1 _ _ (sym c.node_of.ensures ∙ c.in-Two.is) _ _ _ (rw c.in-Gave-a.is at c.operand-a-in-Two.ensures.0) c.operand-a-in-Two.auto.text _ c.decided.ensures c.if-decided.false)
 
 pub evaluate-returns-in_default-b : goal.evaluate-returns-in_default-b
-evaluate-returns-in_default-b t c = (right_refused _ _ _ _ _ _ _ _ c.requires.1 _ _ (sym c.node_of.ensures ∙ c.in-Two.is) _ _ _ (rw c.in-Gave-a.is at c.operand-a-in-Two.ensures.0) c.operand-a-in-Two.auto.text _ c.decided.ensures c.if-decided.false _ _ c.operand-b.ensures.0 c.in_default-b.keys2, lies_refused c.args.top (node_of (get_or c.args.nodes.now c.args.k 0)) c.args.row.now c.operand-b.result c.in_default-b.keys2)
+evaluate-returns-in_default-b t c = (right_refused _ _ _ _ _ _ _ _ c.requires.1 _ _ (sym c.node_of.ensures ∙ c.in-Two.is) _ _ _ (rw c.in-Gave-a.is at c.operand-a-in-Two.ensures.0) c.operand-a-in-Two.auto.text _ c.decided.ensures c.if-decided.false _ _ c.operand-b.ensures.0 c.in_default-b.in_default-b-own.keys2, lies_refused c.args.top (node_of (get_or c.args.nodes.now c.args.k 0)) c.args.row.now c.operand-b.result c.in_default-b.in_default-b-own.keys2)
 
 pub evaluate-apply-requires : goal.evaluate-apply-requires
 evaluate-apply-requires t c = join_asks _ _ _ _ _ _ _ _ c.requires.1 _ _ (sym c.node_of.ensures ∙ c.in-Two.is) _ _ _ (rw c.in-Gave-a.is at c.operand-a-in-Two.ensures.0) c.operand-a-in-Two.auto.text _ c.decided.ensures c.if-decided.false _ _ c.operand-b.ensures.0 _ _ c.in-Gave-b.is c.operand-b.auto.text

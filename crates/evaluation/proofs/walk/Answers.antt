@@ -42,20 +42,20 @@ pub evaluate-requires : goal.evaluate-requires
 evaluate-requires c = asked c
 
 pub returns-in-Denied : goal.returns-in-Denied
-returns-in-Denied c = denied base c.args.condition.now c.args.row.now c.args.text.now c.args.used c.in-Denied.r (subst (PreparedIs c.args.condition.now c.args.row.now (length c.args.text.now) c.args.used c.prepare.new.1.1.1.1.0) c.in-Denied.is c.prepare.ensures)
+returns-in-Denied c = denied base c.args.condition.now c.args.row.now c.args.text.now c.args.used c.in-Denied.r (subst (PreparedIs c.args.condition.now c.args.row.now (length c.args.text.now) c.args.used c.prepare.new.nodes) c.in-Denied.is c.prepare.ensures)
 
 pub returns-in-Gave : goal.returns-in-Gave
 unfolding answer_of
-returns-in-Gave c = subst (λ x. EvaluatedIs base c.args.condition.now c.args.row.now c.args.text.now c.evaluate.new.1.1.1.1.1.0 c.args.used (answer_of x)) c.in-Gave.is (ran c _ c.evaluate.auto.text _ c.evaluate.ensures.0 c.evaluate.ensures.1)
+returns-in-Gave c = subst (λ x. EvaluatedIs base c.args.condition.now c.args.row.now c.args.text.now c.evaluate.new.text c.args.used (answer_of x)) c.in-Gave.is (ran c _ c.evaluate.auto.text _ c.evaluate.ensures.0 c.evaluate.ensures.1)
 
 pub returns-in-Overflow : goal.returns-in-Overflow
 unfolding answer_of
-returns-in-Overflow c = subst (λ x. EvaluatedIs base c.args.condition.now c.args.row.now c.args.text.now c.evaluate.new.1.1.1.1.1.0 c.args.used (answer_of x)) c.in-Overflow.is (ran c _ c.evaluate.auto.text _ c.evaluate.ensures.0 c.evaluate.ensures.1)
+returns-in-Overflow c = subst (λ x. EvaluatedIs base c.args.condition.now c.args.row.now c.args.text.now c.evaluate.new.text c.args.used (answer_of x)) c.in-Overflow.is (ran c _ c.evaluate.auto.text _ c.evaluate.ensures.0 c.evaluate.ensures.1)
 
 pub returns-in-ShiftAmount : goal.returns-in-ShiftAmount
 unfolding answer_of
-returns-in-ShiftAmount c = subst (λ x. EvaluatedIs base c.args.condition.now c.args.row.now c.args.text.now c.evaluate.new.1.1.1.1.1.0 c.args.used (answer_of x)) c.in-ShiftAmount.is (ran c _ c.evaluate.auto.text _ c.evaluate.ensures.0 c.evaluate.ensures.1)
+returns-in-ShiftAmount c = subst (λ x. EvaluatedIs base c.args.condition.now c.args.row.now c.args.text.now c.evaluate.new.text c.args.used (answer_of x)) c.in-ShiftAmount.is (ran c _ c.evaluate.auto.text _ c.evaluate.ensures.0 c.evaluate.ensures.1)
 
 pub returns-in-TooLong : goal.returns-in-TooLong
 unfolding answer_of
-returns-in-TooLong c = subst (λ x. EvaluatedIs base c.args.condition.now c.args.row.now c.args.text.now c.evaluate.new.1.1.1.1.1.0 c.args.used (answer_of x)) c.in-TooLong.is (ran c _ c.evaluate.auto.text _ c.evaluate.ensures.0 c.evaluate.ensures.1)
+returns-in-TooLong c = subst (λ x. EvaluatedIs base c.args.condition.now c.args.row.now c.args.text.now c.evaluate.new.text c.args.used (answer_of x)) c.in-TooLong.is (ran c _ c.evaluate.auto.text _ c.evaluate.ensures.0 c.evaluate.ensures.1)

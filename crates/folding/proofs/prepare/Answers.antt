@@ -10,4 +10,4 @@ pub returns-in-Refused-place : goal.returns-in-Refused-place
 returns-in-Refused-place c = at_output c.args.condition.now c.args.size c.args.used c.args.output (told_sound _ _ c.in_default.is c.check_room-room.ensures) c.in-Refused-place.r (told_refused _ c.in-Refused-place.r _ c.in-Refused-place.is c.check_output-place.ensures)
 
 pub returns : goal.returns
-returns c = at_form c.args.condition.now c.args.size c.args.used c.args.output (told_sound _ _ c.in_default.is c.check_room-room.ensures) (told_sound _ _ c.in_default-place.is c.check_output-place.ensures) c.scan.new.1.1.1.0 c.scan.result c.scan.ensures
+returns c = at_form c.args.condition.now c.args.size c.args.used c.args.output (told_sound _ _ c.in_default.is c.check_room-room.ensures) (told_sound _ _ c.in_default-place.is c.check_output-place.ensures) c.scan.new.nodes c.scan.result c.scan.ensures

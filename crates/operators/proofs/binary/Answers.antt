@@ -36,7 +36,7 @@ returns-then-kind-eq1 c = applied_null _ _ _
     (ap (λ v. (binary_of c.args.rules c.args.op v w) v (value_of (take c.args.top c.args.text.now) c.args.b)) (value_int (take c.args.top c.args.text.now) _ c.if-kind-eq1.true) ∙ binary_int_other _ _ c.if-op-lt38.false _ _ (not_int _ _ c.if-other-eq1.false))
 
 pub returns-then-op-eq38 : goal.returns-then-op-eq38
-returns-then-op-eq38 c = subst (λ o. Applied c.args.text.now c.join.new.1.1.1.0 c.args.top c.join.result o)
+returns-then-op-eq38 c = subst (λ o. Applied c.args.text.now c.join.new.text c.args.top c.join.result o)
     (sym (ap₂ (binary_of c.args.rules c.args.op v w) (value_str (take c.args.top c.args.text.now) _ c.if-kind-eq2.true) (value_str (take c.args.top c.args.text.now) _ c.if-other-eq2.true) ∙ binary_join _ _ c.if-op-lt38.false _ _ c.if-op-eq38.true))
     c.join.ensures
 

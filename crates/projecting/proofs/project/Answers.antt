@@ -12,7 +12,7 @@ pub copy_words-requires : goal.copy_words-requires
 copy_words-requires c = subst (λ l. c.args.at + length l ≤ length c.args.out.now) (sym (all_columns c.args.list.now c.args.row.now c.if-list-eq0.true)) c.requires.1
 
 pub returns-then-list-eq0 : goal.returns-then-list-eq0
-returns-then-list-eq0 c = subst (λ l. Wrote c.args.out.now c.args.at l c.copy_words.result c.copy_words.new.1.0) (all_columns c.args.list.now c.args.row.now c.if-list-eq0.true) c.copy_words.ensures
+returns-then-list-eq0 c = subst (λ l. Wrote c.args.out.now c.args.at l c.copy_words.result c.copy_words.new.out) (all_columns c.args.list.now c.args.row.now c.if-list-eq0.true) c.copy_words.ensures
 
 pub loop-i-init : goal.loop-i-init
 loop-i-init c = copying_start _ _ _

@@ -10,7 +10,7 @@ pub replace-requires : goal.replace-requires
 replace-requires c = (c.requires.1, c.requires.3)
 
 pub returns-then-word-lt216172782113783808 : goal.returns-then-word-lt216172782113783808
-returns-then-word-lt216172782113783808 c = λ x s text front S T small st. one_literal _ _ c.args.place c.args.start _ _ _ x s text front _ S T (omega (arith, c.if-word-lt216172782113783808.true)) small c.unary.result c.unary.ensures c.replace.result c.replace.new.1.1.0 c.replace.ensures st
+returns-then-word-lt216172782113783808 c = λ x s text front S T small st. one_literal _ _ c.args.place c.args.start _ _ _ x s text front _ S T (omega (arith, c.if-word-lt216172782113783808.true)) small c.unary.result c.unary.ensures c.replace.result c.replace.new.out c.replace.ensures st
 
 pub overflow_cast-out : goal.overflow_cast-out
 overflow_cast-out c = omega (arith, c.requires.0.1)

@@ -11,7 +11,7 @@ pub replace-requires : goal.replace-requires
 replace-requires c = (c.requires.start_space, c.requires.early)
 
 pub returns-then-folds : goal.returns-then-folds
-returns-then-folds c = λ x y s front S T st. two_literal _ _ c.args.place c.args.start _ _ _ _ x y s _ front _ S T (sym c.folds.ensures ∙ c.if-folds.true) c.requires.room.short (omega (arith, c.requires.room.above)) (omega (arith, T.long, c.requires.room.above, c.requires.room.small)) c.binary-answer.result _ c.binary-answer.ensures c.replace.result c.replace.new.1.1.0 c.replace.ensures st
+returns-then-folds c = λ x y s front S T st. two_literal _ _ c.args.place c.args.start _ _ _ _ x y s _ front _ S T (sym c.folds.ensures ∙ c.if-folds.true) c.requires.room.short (omega (arith, c.requires.room.above)) (omega (arith, T.long, c.requires.room.above, c.requires.room.small)) c.binary-answer.result _ c.binary-answer.ensures c.replace.result c.replace.new.out c.replace.ensures st
 
 pub overflow_cast-out : goal.overflow_cast-out
 overflow_cast-out c = omega (arith, c.requires.known.1)

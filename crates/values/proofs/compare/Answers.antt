@@ -29,7 +29,7 @@ returns-in-Null-b c = rw (c.in-Null.is, c.in-Null-b.is)
 
 pub returns-in_default : goal.returns-in_default
 unfolding to_value
-returns-in_default c = rw c.in-Null.is (null_other c.args.stored.now c.args.b c.in_default.keys2)
+returns-in_default c = rw c.in-Null.is (null_other c.args.stored.now c.args.b c.in_default.in_default-own.keys2)
 
 pub returns-in-Null-b-2 : goal.returns-in-Null-b-2
 unfolding order to_value
@@ -37,13 +37,13 @@ returns-in-Null-b-2 c = rw (c.in-Int.is, c.in-Null-b-2.is)
 
 pub returns-in-Int-b : goal.returns-in-Int-b
 unfolding order to_value
-returns-in-Int-b c = let h : SFits w32 c.in-Int.x = record { sfits = c.known_told-1.given.0.1 } in
-    let k : SFits w32 c.in-Int-b.y = record { sfits = c.known_told-in-Int-1.given.0.1 } in
+returns-in-Int-b c = let h : SFits w32 c.in-Int.x = record { sfits = c.in-Int.known_told-1-own.given.0.1 } in
+    let k : SFits w32 c.in-Int-b.y = record { sfits = c.in-Int-b.known_told-in-Int-1-own.given.0.1 } in
     rw (c.in-Int.is, c.in-Int-b.is) (c.compare_ints.ensures ∙ ap₂ by_ints (to_z-of_z h) (to_z-of_z k))
 
 pub returns-in_default-b : goal.returns-in_default-b
 unfolding to_value
-returns-in_default-b c = rw c.in-Int.is (int_other c.args.stored.now c.args.b _ c.in_default-b.keys3)
+returns-in_default-b c = rw c.in-Int.is (int_other c.args.stored.now c.args.b _ c.in_default-b.in_default-b-own.keys3)
 
 pub returns-in-Str-b : goal.returns-in-Str-b
 unfolding order to_value
@@ -55,7 +55,7 @@ returns-in-Binary-b c = rw (c.in-Str.is, c.in-Binary-b.is)
 
 pub returns-in_default-b-2 : goal.returns-in_default-b-2
 unfolding to_value
-returns-in_default-b-2 c = rw c.in-Str.is (str_other c.args.stored.now c.args.b _ c.in_default-b-2.keys3)
+returns-in_default-b-2 c = rw c.in-Str.is (str_other c.args.stored.now c.args.b _ c.in_default-b-2.in_default-b-2-own.keys3)
 
 pub returns-in-Binary-b-2 : goal.returns-in-Binary-b-2
 unfolding order to_value
@@ -63,4 +63,4 @@ returns-in-Binary-b-2 c = rw (c.in-Binary.is, c.in-Binary-b-2.is)
 
 pub returns-in_default-b-3 : goal.returns-in_default-b-3
 unfolding to_value
-returns-in_default-b-3 c = rw c.in-Binary.is (binary_other c.args.stored.now c.args.b c.in_default-b-3.keys2)
+returns-in_default-b-3 c = rw c.in-Binary.is (binary_other c.args.stored.now c.args.b c.in_default-b-3.in_default-b-3-own.keys2)

@@ -10,7 +10,7 @@ returns-in-Null c = λ t h. rw c.in-Null.is
 
 pub returns-in-Int : goal.returns-in-Int
 unfolding to_value to_bool
-returns-in-Int c = λ t h. rw c.in-Int.is (nonzero_bits c.in-Int.number c.known_told-1.given.0.1)
+returns-in-Int c = λ t h. rw c.in-Int.is (nonzero_bits c.in-Int.number c.in-Int.known_told-1-own.given.0.1)
 
 pub returns-in-Str : goal.returns-in-Str
 unfolding to_value to_bool Inside

@@ -9,7 +9,7 @@ use native.Mathlib.Omega.{arith}
 use Rattle.cells.proofs.ValueRef.to_word.Goals as goal
 
 pub overflow_add-result : goal.overflow_add-result
-overflow_add-result c = let h : SFits w32 c.in-Int.number = record { sfits = c.known_told-1.given.0.1 } in
+overflow_add-result c = let h : SFits w32 c.in-Int.number = record { sfits = c.in-Int.known_told-1-own.given.0.1 } in
     let e : c.bits.result ≡ of_z w32 c.in-Int.number = c.bits.ensures ∙ ap (of_z w32) (to_z-of_z h) in
     omega (arith, (Fits-of_z h).fits)
 
@@ -19,7 +19,7 @@ returns-in-Null c = rw c.in-Null.is
 
 pub returns-in-Int : goal.returns-in-Int
 unfolding word_of
-returns-in-Int c = let h : SFits w32 c.in-Int.number = record { sfits = c.known_told-1.given.0.1 } in
+returns-in-Int c = let h : SFits w32 c.in-Int.number = record { sfits = c.in-Int.known_told-1-own.given.0.1 } in
     rw (c.in-Int.is, c.bits.ensures) (ap (λ z. 2 ^ 56 + of_z w32 z) (to_z-of_z h))
 
 pub returns-in-Str : goal.returns-in-Str
