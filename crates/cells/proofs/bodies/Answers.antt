@@ -6,19 +6,19 @@ use Rattle.cells.proofs.bodies.Goals as goal
 
 pub returns-in-0 : goal.returns-in-0
 unfolding bodies_of
-returns-in-0 c = rw c.in-0.in-0-own
+returns-in-0 c = rw c.in-0.is
 
 pub returns-in-1 : goal.returns-in-1
 unfolding bodies_of
-returns-in-1 c = rw c.in-1.in-1-own
+returns-in-1 c = rw c.in-1.is
 
 pub returns-in-2 : goal.returns-in-2
 unfolding bodies_of
-returns-in-2 c = rw c.in-2.in-2-own
+returns-in-2 c = rw c.in-2.is
 
 pub returns-in-3 : goal.returns-in-3
 unfolding bodies_of
-returns-in-3 c = rw c.in-3.in-3-own
+returns-in-3 c = rw c.in-3.is
 
 pub returns-in_default : goal.returns-in_default
 returns-in_default c = sym (bodies_other _ c.in_default.in_default-own.rest.0.0.0.1 c.in_default.in_default-own.rest.0.0.1 c.in_default.in_default-own.rest.0.1 c.in_default.in_default-own.rest.1)

@@ -14,79 +14,103 @@ use Rattle.conditions.proofs.evaluate.Reads as evaluate
 use Rattle.conditions.proofs.+evaluate_operand.Goals as goal
 
 pub evaluate-offset_bounds-nodes-k : goal.evaluate-offset_bounds-nodes-k
-evaluate-offset_bounds-nodes-k t c = scaled_Fits _ _ 8 (in_table _ _ _ _ _ c.requires.1.sound) c.well_formed.1.0.1
+evaluate-offset_bounds-nodes-k t c = scaled_Fits _ _ 8 (in_table _ _ _ _ _ c.requires.sound) c.well_formed.1.0.1
 
 pub evaluate-bounds-nodes-k : goal.evaluate-bounds-nodes-k
-evaluate-bounds-nodes-k t c = in_table _ _ _ _ _ c.requires.1.sound
+evaluate-bounds-nodes-k t c = in_table _ _ _ _ _ c.requires.sound
 
 pub evaluate-leaf-requires : goal.evaluate-leaf-requires
-evaluate-leaf-requires t c = leaf_sound _ _ _ _ _ _ _ _ c.requires.1 _ (sym c.node_of.ensures ∙ c.in-Leaf.is)
+evaluate-leaf-requires t c = leaf_sound _ _ _ _ _ _ _ _ c.requires _ (sym c.node_of.ensures ∙ c.in-Leaf.is)
 
 pub evaluate-overflow_sub-k : goal.evaluate-overflow_sub-k
-evaluate-overflow_sub-k t c = (sound_one _ _ _ _ _ c.requires.1.sound (sym c.node_of.ensures ∙ c.in-One.is)).below
+evaluate-overflow_sub-k t c = (sound_one _ _ _ _ _ c.requires.sound (sym c.node_of.ensures ∙ c.in-One.is)).below
 
 pub evaluate-overflow_sub-depth : goal.evaluate-overflow_sub-depth
-evaluate-overflow_sub-depth t c = deep _ _ _ _ _ c.requires.1.sound
+evaluate-overflow_sub-depth t c = deep _ _ _ _ _ c.requires.sound
 
 pub evaluate-operand-a-requires : goal.evaluate-operand-a-requires
-evaluate-operand-a-requires t c = (omega (arith, c.requires.0, deep _ _ _ _ _ c.requires.1.sound), one_asks _ _ _ _ _ _ _ _ c.requires.1 _ (sym c.node_of.ensures ∙ c.in-One.is))
+evaluate-operand-a-requires t c = (omega (arith, c.decreases, deep _ _ _ _ _ c.requires.sound), one_asks _ _ _ _ _ _ _ _ c.requires _ (sym c.node_of.ensures ∙ c.in-One.is))
 
 pub evaluate-returns-in_default : goal.evaluate-returns-in_default
-evaluate-returns-in_default t c = (one_refused _ _ _ _ _ _ _ _ c.requires.1 _ (sym c.node_of.ensures ∙ c.in-One.is) _ _ c.in_default.in_default-own.keys2 c.operand-a.ensures.0, lies_refused c.args.top (node_of (get_or c.args.nodes.now c.args.k 0)) c.args.row.now c.operand-a.result c.in_default.in_default-own.keys2)
+evaluate-returns-in_default t c = record {
+    means = one_refused _ _ _ _ _ _ _ _ c.requires _ (sym c.node_of.ensures ∙ c.in-One.is) _ _ c.in_default.in_default-own.keys2 c.operand-a.ensures.means;
+    lies = lies_refused c.args.top (node_of (get_or c.args.nodes.now c.args.k 0)) c.args.row.now c.operand-a.result c.in_default.in_default-own.keys2;
+  }
 
 pub evaluate-unary-requires : goal.evaluate-unary-requires
-evaluate-unary-requires t c = (sound_one _ _ _ _ _ c.requires.1.sound (sym c.node_of.ensures ∙ c.in-One.is)).known
+evaluate-unary-requires t c = (sound_one _ _ _ _ _ c.requires.sound (sym c.node_of.ensures ∙ c.in-One.is)).known
 
 pub evaluate-overflow_sub-r : goal.evaluate-overflow_sub-r
-evaluate-overflow_sub-r t c = (sound_two _ _ _ _ _ c.requires.1.sound (sym c.node_of.ensures ∙ c.in-Two.is)).right_below
+evaluate-overflow_sub-r t c = (sound_two _ _ _ _ _ c.requires.sound (sym c.node_of.ensures ∙ c.in-Two.is)).right_below
 
 pub evaluate-overflow_sub-depth-in-Two : goal.evaluate-overflow_sub-depth-in-Two
-evaluate-overflow_sub-depth-in-Two t c = deep _ _ _ _ _ c.requires.1.sound
+evaluate-overflow_sub-depth-in-Two t c = deep _ _ _ _ _ c.requires.sound
 
 pub evaluate-operand-a-requires-in-Two : goal.evaluate-operand-a-requires-in-Two
-evaluate-operand-a-requires-in-Two t c = (omega (arith, c.requires.0, deep _ _ _ _ _ c.requires.1.sound), left_asks _ _ _ _ _ _ _ _ c.requires.1 _ _ (sym c.node_of.ensures ∙ c.in-Two.is))
+evaluate-operand-a-requires-in-Two t c = (omega (arith, c.decreases, deep _ _ _ _ _ c.requires.sound), left_asks _ _ _ _ _ _ _ _ c.requires _ _ (sym c.node_of.ensures ∙ c.in-Two.is))
 
 pub evaluate-returns-in_default-a : goal.evaluate-returns-in_default-a
-evaluate-returns-in_default-a t c = (left_refused _ _ _ _ _ _ _ _ c.requires.1 _ _ (sym c.node_of.ensures ∙ c.in-Two.is) _ _ c.in_default-a.in_default-a-own.keys2 c.operand-a-in-Two.ensures.0, lies_refused c.args.top (node_of (get_or c.args.nodes.now c.args.k 0)) c.args.row.now c.operand-a-in-Two.result c.in_default-a.in_default-a-own.keys2)
+evaluate-returns-in_default-a t c = record {
+    means = left_refused _ _ _ _ _ _ _ _ c.requires _ _ (sym c.node_of.ensures ∙ c.in-Two.is) _ _ c.in_default-a.in_default-a-own.keys2 c.operand-a-in-Two.ensures.means;
+    lies = lies_refused c.args.top (node_of (get_or c.args.nodes.now c.args.k 0)) c.args.row.now c.operand-a-in-Two.result c.in_default-a.in_default-a-own.keys2;
+  }
 
 pub evaluate-returns-then-decided : goal.evaluate-returns-then-decided
-evaluate-returns-then-decided t c = (left_decided _ _ _ _ _ _ _ _ c.requires.1 _ _ (sym c.node_of.ensures ∙ c.in-Two.is) _ _ _ (rw c.in-Gave-a.is at c.operand-a-in-Two.ensures.0) c.operand-a-in-Two.auto.text _ c.decided.ensures _ _ c.if-decided.true c.truth.ensures c.flag.ensures, left_lies _ _ _ _ _ _ _ _ c.requires.1 _ _ (sym c.node_of.ensures ∙ c.in-Two.is) _ _ _ (rw c.in-Gave-a.is at c.operand-a-in-Two.ensures.0) c.operand-a-in-Two.auto.text _ c.decided.ensures _ _ c.flag.ensures)
+evaluate-returns-then-decided t c = record {
+    means = left_decided _ _ _ _ _ _ _ _ c.requires _ _ (sym c.node_of.ensures ∙ c.in-Two.is) _ _ _ (rw c.in-Gave-a.is at c.operand-a-in-Two.ensures.means) c.operand-a-in-Two.auto.text _ c.decided.ensures _ _ c.if-decided.true c.truth.ensures c.flag.ensures;
+    lies = left_lies _ _ _ _ _ _ _ _ c.requires _ _ (sym c.node_of.ensures ∙ c.in-Two.is) _ _ _ (rw c.in-Gave-a.is at c.operand-a-in-Two.ensures.means) c.operand-a-in-Two.auto.text _ c.decided.ensures _ _ c.flag.ensures;
+  }
 
 pub evaluate-overflow_sub-depth-in-Two-2 : goal.evaluate-overflow_sub-depth-in-Two-2
-evaluate-overflow_sub-depth-in-Two-2 t c = deep _ _ _ _ _ c.requires.1.sound
+evaluate-overflow_sub-depth-in-Two-2 t c = deep _ _ _ _ _ c.requires.sound
 
 pub evaluate-operand-b-requires : goal.evaluate-operand-b-requires
-evaluate-operand-b-requires t c = (omega (arith, c.requires.0, deep _ _ _ _ _ c.requires.1.sound), right_asks _ _ _ _ _ _ _ _ c.requires.1 _ _ (sym c.node_of.ensures ∙ c.in-Two.is) _ _ _ (rw c.in-Gave-a.is at c.operand-a-in-Two.ensures.0) c.operand-a-in-Two.auto.text _ c.decided.ensures c.if-decided.false)
+evaluate-operand-b-requires t c = (omega (arith, c.decreases, deep _ _ _ _ _ c.requires.sound), right_asks _ _ _ _ _ _ _ _ c.requires _ _ (sym c.node_of.ensures ∙ c.in-Two.is) _ _ _ (rw c.in-Gave-a.is at c.operand-a-in-Two.ensures.means) c.operand-a-in-Two.auto.text _ c.decided.ensures c.if-decided.false)
 
 pub evaluate-returns-in_default-b : goal.evaluate-returns-in_default-b
-evaluate-returns-in_default-b t c = (right_refused _ _ _ _ _ _ _ _ c.requires.1 _ _ (sym c.node_of.ensures ∙ c.in-Two.is) _ _ _ (rw c.in-Gave-a.is at c.operand-a-in-Two.ensures.0) c.operand-a-in-Two.auto.text _ c.decided.ensures c.if-decided.false _ _ c.operand-b.ensures.0 c.in_default-b.in_default-b-own.keys2, lies_refused c.args.top (node_of (get_or c.args.nodes.now c.args.k 0)) c.args.row.now c.operand-b.result c.in_default-b.in_default-b-own.keys2)
+evaluate-returns-in_default-b t c = record {
+    means = right_refused _ _ _ _ _ _ _ _ c.requires _ _ (sym c.node_of.ensures ∙ c.in-Two.is) _ _ _ (rw c.in-Gave-a.is at c.operand-a-in-Two.ensures.means) c.operand-a-in-Two.auto.text _ c.decided.ensures c.if-decided.false _ _ c.operand-b.ensures.means c.in_default-b.in_default-b-own.keys2;
+    lies = lies_refused c.args.top (node_of (get_or c.args.nodes.now c.args.k 0)) c.args.row.now c.operand-b.result c.in_default-b.in_default-b-own.keys2;
+  }
 
 pub evaluate-apply-requires : goal.evaluate-apply-requires
-evaluate-apply-requires t c = join_asks _ _ _ _ _ _ _ _ c.requires.1 _ _ (sym c.node_of.ensures ∙ c.in-Two.is) _ _ _ (rw c.in-Gave-a.is at c.operand-a-in-Two.ensures.0) c.operand-a-in-Two.auto.text _ c.decided.ensures c.if-decided.false _ _ c.operand-b.ensures.0 _ _ c.in-Gave-b.is c.operand-b.auto.text
+evaluate-apply-requires t c = join_asks _ _ _ _ _ _ _ _ c.requires _ _ (sym c.node_of.ensures ∙ c.in-Two.is) _ _ _ (rw c.in-Gave-a.is at c.operand-a-in-Two.ensures.means) c.operand-a-in-Two.auto.text _ c.decided.ensures c.if-decided.false _ _ c.operand-b.ensures.means _ _ c.in-Gave-b.is c.operand-b.auto.text
 
 pub evaluate-returns-in-Leaf : goal.evaluate-returns-in-Leaf
-evaluate-returns-in-Leaf t c = (leaf_answers _ _ _ _ _ _ _ _ c.requires.1 _ _ (sym c.node_of.ensures ∙ c.in-Leaf.is) c.leaf.ensures, lies_leaf c.args.top _ _ _ _ _ c.args.top (sym c.node_of.ensures ∙ c.in-Leaf.is) c.leaf.ensures)
+evaluate-returns-in-Leaf t c = record {
+    means = leaf_answers _ _ _ _ _ _ _ _ c.requires _ _ (sym c.node_of.ensures ∙ c.in-Leaf.is) c.leaf.ensures;
+    lies = lies_leaf c.args.top _ _ _ _ _ c.args.top (sym c.node_of.ensures ∙ c.in-Leaf.is) c.leaf.ensures;
+  }
 
 pub evaluate-returns-in-Gave : goal.evaluate-returns-in-Gave
-evaluate-returns-in-Gave t c = (one_answers _ _ _ _ _ _ _ _ c.requires.1 _ (sym c.node_of.ensures ∙ c.in-One.is) _ _ _ _ (rw c.in-Gave.is at c.operand-a.ensures.0) c.unary.ensures c.operand-a.auto.text, one_lies _ _ _ _ _ _ _ _ c.requires.1 _ (sym c.node_of.ensures ∙ c.in-One.is) _ _ _ c.unary.result (rw c.in-Gave.is at c.operand-a.ensures.0) c.unary.ensures c.operand-a.auto.text)
+evaluate-returns-in-Gave t c = record {
+    means = one_answers _ _ _ _ _ _ _ _ c.requires _ (sym c.node_of.ensures ∙ c.in-One.is) _ _ _ _ (rw c.in-Gave.is at c.operand-a.ensures.means) c.unary.ensures c.operand-a.auto.text;
+    lies = one_lies _ _ _ _ _ _ _ _ c.requires _ (sym c.node_of.ensures ∙ c.in-One.is) _ _ _ c.unary.result (rw c.in-Gave.is at c.operand-a.ensures.means) c.unary.ensures c.operand-a.auto.text;
+  }
 
 pub evaluate-returns-in-Gave-b : goal.evaluate-returns-in-Gave-b
-evaluate-returns-in-Gave-b t c = (two_answers _ _ _ _ _ _ _ _ c.requires.1 _ _ (sym c.node_of.ensures ∙ c.in-Two.is) _ _ _ (rw c.in-Gave-a.is at c.operand-a-in-Two.ensures.0) c.operand-a-in-Two.auto.text _ c.decided.ensures c.if-decided.false _ _ c.operand-b.ensures.0 _ _ c.in-Gave-b.is c.operand-b.auto.text _ _ c.apply.ensures, two_lies _ _ _ _ _ _ _ _ c.requires.1 _ _ (sym c.node_of.ensures ∙ c.in-Two.is) _ _ _ (rw c.in-Gave-a.is at c.operand-a-in-Two.ensures.0) c.operand-a-in-Two.auto.text _ c.decided.ensures c.if-decided.false _ _ c.operand-b.ensures.0 _ _ c.in-Gave-b.is c.operand-b.auto.text _ c.apply.result c.apply.ensures)
+evaluate-returns-in-Gave-b t c = record {
+    means = two_answers _ _ _ _ _ _ _ _ c.requires _ _ (sym c.node_of.ensures ∙ c.in-Two.is) _ _ _ (rw c.in-Gave-a.is at c.operand-a-in-Two.ensures.means) c.operand-a-in-Two.auto.text _ c.decided.ensures c.if-decided.false _ _ c.operand-b.ensures.means _ _ c.in-Gave-b.is c.operand-b.auto.text _ _ c.apply.ensures;
+    lies = two_lies _ _ _ _ _ _ _ _ c.requires _ _ (sym c.node_of.ensures ∙ c.in-Two.is) _ _ _ (rw c.in-Gave-a.is at c.operand-a-in-Two.ensures.means) c.operand-a-in-Two.auto.text _ c.decided.ensures c.if-decided.false _ _ c.operand-b.ensures.means _ _ c.in-Gave-b.is c.operand-b.auto.text _ c.apply.result c.apply.ensures;
+  }
 
 pub operand-offset_bounds-nodes-k : goal.operand-offset_bounds-nodes-k
-operand-offset_bounds-nodes-k t c = scaled_Fits _ _ 8 (in_table _ _ _ _ _ c.requires.1.sound) c.well_formed.1.0.1
+operand-offset_bounds-nodes-k t c = scaled_Fits _ _ 8 (in_table _ _ _ _ _ c.requires.sound) c.well_formed.1.0.1
 
 pub operand-bounds-nodes-k : goal.operand-bounds-nodes-k
-operand-bounds-nodes-k t c = in_table _ _ _ _ _ c.requires.1.sound
+operand-bounds-nodes-k t c = in_table _ _ _ _ _ c.requires.sound
 
 pub operand-leaf-requires : goal.operand-leaf-requires
-operand-leaf-requires t c = leaf_sound _ _ _ _ _ _ _ _ c.requires.1 _ (node_low _ c.if-word-lt1152921504606846976.true)
+operand-leaf-requires t c = leaf_sound _ _ _ _ _ _ _ _ c.requires _ (node_low _ c.if-word-lt1152921504606846976.true)
 
 pub operand-returns-then-word-lt1152921504606846976 : goal.operand-returns-then-word-lt1152921504606846976
-operand-returns-then-word-lt1152921504606846976 t c = (leaf_answers _ _ _ _ _ _ _ _ c.requires.1 _ _ (node_low _ c.if-word-lt1152921504606846976.true) c.leaf.ensures, lies_leaf c.args.top _ _ _ _ _ c.args.top (node_low _ c.if-word-lt1152921504606846976.true) c.leaf.ensures)
+operand-returns-then-word-lt1152921504606846976 t c = record {
+    means = leaf_answers _ _ _ _ _ _ _ _ c.requires _ _ (node_low _ c.if-word-lt1152921504606846976.true) c.leaf.ensures;
+    lies = lies_leaf c.args.top _ _ _ _ _ c.args.top (node_low _ c.if-word-lt1152921504606846976.true) c.leaf.ensures;
+  }
 
 pub operand-evaluate-requires : goal.operand-evaluate-requires
-operand-evaluate-requires t c = (omega (arith, c.requires.0), c.requires.1)
+operand-evaluate-requires t c = (omega (arith, c.decreases), c.requires)
 
 pub operand-returns : goal.operand-returns
 operand-returns t c = c.evaluate.ensures

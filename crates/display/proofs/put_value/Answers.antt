@@ -4,16 +4,16 @@ use Rattle.display.proofs.Shown.{shown_int, shown_text, shown_binary, shown_null
 use Rattle.display.proofs.put_value.Goals as goal
 
 pub slice_bounds-put_text-end : goal.slice_bounds-put_text-end
-slice_bounds-put_text-end c = text_inside c.args.stored.now _ c.in-2.in-2-own c.requires.0
+slice_bounds-put_text-end c = text_inside c.args.stored.now _ c.in-2.is c.requires.0
 
 pub returns-in-1 : goal.returns-in-1
-returns-in-1 c = rw (shown_int _ _ c.in-1.in-1-own) c.put_decimal.ensures
+returns-in-1 c = rw (shown_int _ _ c.in-1.is) c.put_decimal.ensures
 
 pub returns-in-2 : goal.returns-in-2
-returns-in-2 c = rw (shown_text _ _ c.in-2.in-2-own) (rw add-sub_cancel_left at c.put_text.ensures)
+returns-in-2 c = rw (shown_text _ _ c.in-2.is) (rw add-sub_cancel_left at c.put_text.ensures)
 
 pub returns-in-3 : goal.returns-in-3
-returns-in-3 c = rw (shown_binary _ _ c.in-3.in-3-own) c.put_bytes.ensures
+returns-in-3 c = rw (shown_binary _ _ c.in-3.is) c.put_bytes.ensures
 
 pub returns-in_default : goal.returns-in_default
 returns-in_default c = rw (shown_null _ _ c.in_default.in_default-own.rest.0.0.1 c.in_default.in_default-own.rest.0.1 c.in_default.in_default-own.rest.1) c.put_bytes-in_default.ensures

@@ -46,16 +46,16 @@ returns-in-Denied c = denied base c.args.condition.now c.args.row.now c.args.tex
 
 pub returns-in-Gave : goal.returns-in-Gave
 unfolding answer_of
-returns-in-Gave c = subst (λ x. EvaluatedIs base c.args.condition.now c.args.row.now c.args.text.now c.evaluate.new.text c.args.used (answer_of x)) c.in-Gave.is (ran c _ c.evaluate.auto.text _ c.evaluate.ensures.0 c.evaluate.ensures.1)
+returns-in-Gave c = subst (λ x. EvaluatedIs base c.args.condition.now c.args.row.now c.args.text.now c.evaluate.new.text c.args.used (answer_of x)) c.in-Gave.is (ran c _ c.evaluate.auto.text _ c.evaluate.ensures.means c.evaluate.ensures.lies)
 
 pub returns-in-Overflow : goal.returns-in-Overflow
 unfolding answer_of
-returns-in-Overflow c = subst (λ x. EvaluatedIs base c.args.condition.now c.args.row.now c.args.text.now c.evaluate.new.text c.args.used (answer_of x)) c.in-Overflow.is (ran c _ c.evaluate.auto.text _ c.evaluate.ensures.0 c.evaluate.ensures.1)
+returns-in-Overflow c = subst (λ x. EvaluatedIs base c.args.condition.now c.args.row.now c.args.text.now c.evaluate.new.text c.args.used (answer_of x)) c.in-Overflow.is (ran c _ c.evaluate.auto.text _ c.evaluate.ensures.means c.evaluate.ensures.lies)
 
 pub returns-in-ShiftAmount : goal.returns-in-ShiftAmount
 unfolding answer_of
-returns-in-ShiftAmount c = subst (λ x. EvaluatedIs base c.args.condition.now c.args.row.now c.args.text.now c.evaluate.new.text c.args.used (answer_of x)) c.in-ShiftAmount.is (ran c _ c.evaluate.auto.text _ c.evaluate.ensures.0 c.evaluate.ensures.1)
+returns-in-ShiftAmount c = subst (λ x. EvaluatedIs base c.args.condition.now c.args.row.now c.args.text.now c.evaluate.new.text c.args.used (answer_of x)) c.in-ShiftAmount.is (ran c _ c.evaluate.auto.text _ c.evaluate.ensures.means c.evaluate.ensures.lies)
 
 pub returns-in-TooLong : goal.returns-in-TooLong
 unfolding answer_of
-returns-in-TooLong c = subst (λ x. EvaluatedIs base c.args.condition.now c.args.row.now c.args.text.now c.evaluate.new.text c.args.used (answer_of x)) c.in-TooLong.is (ran c _ c.evaluate.auto.text _ c.evaluate.ensures.0 c.evaluate.ensures.1)
+returns-in-TooLong c = subst (λ x. EvaluatedIs base c.args.condition.now c.args.row.now c.args.text.now c.evaluate.new.text c.args.used (answer_of x)) c.in-TooLong.is (ran c _ c.evaluate.auto.text _ c.evaluate.ensures.means c.evaluate.ensures.lies)

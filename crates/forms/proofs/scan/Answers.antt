@@ -22,7 +22,7 @@ pub shape_of-nodes-in-Refused : goal.shape_of-nodes-in-Refused
 shape_of-nodes-in-Refused c = c.loop-at.invariant.long ∙ sym c.requires
 
 pub returns-in-Refused : goal.returns-in-Refused
-returns-in-Refused c = scan_refused _ _ _ _ _ _ _ _ c.loop-at.invariant c.loop-at-test.true c.if-n-eq64.false _ c.scan_node-step.ensures.0 c.scan_node-step.ensures.1 _ c.in-Refused.is
+returns-in-Refused c = scan_refused _ _ _ _ _ _ _ _ c.loop-at.invariant c.loop-at-test.true c.if-n-eq64.false _ c.scan_node-step.ensures.fine c.scan_node-step.ensures.is _ c.in-Refused.is
 
 pub offset_bounds-nodes-n : goal.offset_bounds-nodes-n
 offset_bounds-nodes-n c =
@@ -60,10 +60,10 @@ overflow_add-n c =
     omega (arith, room)
 
 pub loop-at-smaller : goal.loop-at-smaller
-loop-at-smaller c = scan_less _ _ _ _ _ _ _ _ c.loop-at.invariant c.loop-at-test.true c.if-n-eq64.false _ c.scan_node-step.ensures.0 c.scan_node-step.ensures.1 _ _ _ _ c.in-Took.is
+loop-at-smaller c = scan_less _ _ _ _ _ _ _ _ c.loop-at.invariant c.loop-at-test.true c.if-n-eq64.false _ c.scan_node-step.ensures.fine c.scan_node-step.ensures.is _ _ _ _ c.in-Took.is
 
 pub loop-at-preserved : goal.loop-at-preserved
-loop-at-preserved c = scan_more _ _ _ _ _ _ _ _ c.loop-at.invariant c.loop-at-test.true c.if-n-eq64.false _ c.scan_node-step.ensures.0 c.scan_node-step.ensures.1 _ _ _ _ c.in-Took.is
+loop-at-preserved c = scan_more _ _ _ _ _ _ _ _ c.loop-at.invariant c.loop-at-test.true c.if-n-eq64.false _ c.scan_node-step.ensures.fine c.scan_node-step.ensures.is _ _ _ _ c.in-Took.is
 
 pub shape_of-nodes-then-n-eq0 : goal.shape_of-nodes-then-n-eq0
 shape_of-nodes-then-n-eq0 c = c.loop-at.invariant.long ∙ sym c.requires

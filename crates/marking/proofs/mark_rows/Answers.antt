@@ -43,7 +43,10 @@ shape_of-marks-in_default c =
     so_far.long
 
 pub returns-in_default : goal.returns-in_default
-returns-in_default c = (λ b A. loop_refused _ _ _ _ _ _ _ _ c.loop-i.invariant c.loop-i-test.true _ c.mark_row-one.auto.text _ c.mark_row-one.ensures b A _ c.in_default.is, loop_alone _ _ _ _ _ _ _ _ c.loop-i.invariant c.loop-i-test.true _ c.mark_row-one.auto.text _ c.mark_row-one.ensures _ c.requires.1)
+returns-in_default c = record {
+    by_index = λ b A. loop_refused _ _ _ _ _ _ _ _ c.loop-i.invariant c.loop-i-test.true _ c.mark_row-one.auto.text _ c.mark_row-one.ensures b A _ c.in_default.is;
+    text_unchanged = loop_alone _ _ _ _ _ _ _ _ c.loop-i.invariant c.loop-i-test.true _ c.mark_row-one.auto.text _ c.mark_row-one.ensures _ c.requires.1;
+  }
 
 pub offset_bounds-marks-i : goal.offset_bounds-marks-i
 offset_bounds-marks-i c = omega (arith, c.requires.1.table.few)
@@ -74,4 +77,7 @@ shape_of-marks c =
     so_far.long
 
 pub returns : goal.returns
-returns c = (loop_end _ _ _ _ _ _ _ _ c.loop-i.invariant c.loop-i-test.false, c.loop-i.invariant.alone)
+returns c = record {
+    by_index = loop_end _ _ _ _ _ _ _ _ c.loop-i.invariant c.loop-i-test.false;
+    text_unchanged = c.loop-i.invariant.alone;
+  }

@@ -64,4 +64,4 @@ pub two-requires : goal.two-requires
 two-requires c = (c.leaf-a.ensures.within, c.leaf-b.ensures.within)
 
 pub returns : goal.returns
-returns c = λ n. two_found _ _ _ _ _ c.requires _ _ (node_two _ c.if-op-lt32.false) _ (leaf_found _ _ _ _ _ (left_stands _ _ _ _ _ c.requires _ _ (node_two _ c.if-op-lt32.false)) _ _ (node_low _ c.if-left-ge1152921504606846976.false) c.leaf-a.ensures) _ _ (leaf_found _ _ _ _ _ (right_stands _ _ _ _ _ c.requires _ _ (node_two _ c.if-op-lt32.false)) _ _ (node_low _ c.if-right-ge1152921504606846976.false) c.leaf-b.ensures) n c.two.ensures.1
+returns c = λ n. two_found _ _ _ _ _ c.requires _ _ (node_two _ c.if-op-lt32.false) _ (leaf_found _ _ _ _ _ (left_stands _ _ _ _ _ c.requires _ _ (node_two _ c.if-op-lt32.false)) _ _ (node_low _ c.if-left-ge1152921504606846976.false) c.leaf-a.ensures) _ _ (leaf_found _ _ _ _ _ (right_stands _ _ _ _ _ c.requires _ _ (node_two _ c.if-op-lt32.false)) _ _ (node_low _ c.if-right-ge1152921504606846976.false) c.leaf-b.ensures) n c.two.ensures.is

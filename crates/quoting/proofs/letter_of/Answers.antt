@@ -5,27 +5,27 @@ use Rattle.quoting.proofs.letter_of.Goals as goal
 
 pub returns-in-34 : goal.returns-in-34
 unfolding escaped
-returns-in-34 c = rw c.in-34.in-34-own
+returns-in-34 c = rw c.in-34.is
 
 pub returns-in-92 : goal.returns-in-92
 unfolding escaped
-returns-in-92 c = rw c.in-92.in-92-own
+returns-in-92 c = rw c.in-92.is
 
 pub returns-in-0 : goal.returns-in-0
 unfolding escaped
-returns-in-0 c = rw c.in-0.in-0-own
+returns-in-0 c = rw c.in-0.is
 
 pub returns-in-9 : goal.returns-in-9
 unfolding escaped
-returns-in-9 c = rw c.in-9.in-9-own
+returns-in-9 c = rw c.in-9.is
 
 pub returns-in-10 : goal.returns-in-10
 unfolding escaped
-returns-in-10 c = rw c.in-10.in-10-own
+returns-in-10 c = rw c.in-10.is
 
 pub returns-in-13 : goal.returns-in-13
 unfolding escaped
-returns-in-13 c = rw c.in-13.in-13-own
+returns-in-13 c = rw c.in-13.is
 
 pub returns-in_default : goal.returns-in_default
 unfolding escaped

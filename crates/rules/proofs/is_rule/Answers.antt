@@ -23,7 +23,7 @@ returns-then-rule-ne0-2 c = rw (lt-ltb _ _ c.if-rule-ge4294967296.false, eq-eqb 
 
 pub returns-in-1 : goal.returns-in-1
 unfolding is_rule
-returns-in-1 c = rw (lt-ltb _ _ c.if-rule-ge4294967296.false, eq-eqb _ _ c.if-rule-ne0.false, ne_eqb _ _ c.if-rule-eq2.false, eq-eqb _ _ c.if-rule-ne0-2.false, eq-eqb _ _ c.in-1.in-1-own)
+returns-in-1 c = rw (lt-ltb _ _ c.if-rule-ge4294967296.false, eq-eqb _ _ c.if-rule-ne0.false, ne_eqb _ _ c.if-rule-eq2.false, eq-eqb _ _ c.if-rule-ne0-2.false, eq-eqb _ _ c.in-1.is)
 
 pub returns-in-3 : goal.returns-in-3
 unfolding is_rule
@@ -33,7 +33,7 @@ returns-in-3 c = rw (
       ne_eqb _ _ c.if-rule-eq2.false,
       eq-eqb _ _ c.if-rule-ne0-2.false,
       ne_eqb (c.args.rule % 256) 1 (omega arith),
-      eq-eqb _ _ c.in-3.in-3-own,
+      eq-eqb _ _ c.in-3.is,
     )
 
 pub returns-in_default : goal.returns-in_default

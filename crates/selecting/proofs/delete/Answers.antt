@@ -12,7 +12,10 @@ use Rattle.selecting.proofs.Calls.{TableStop, PassedBy, delete_table, delete_ref
 use Rattle.selecting.proofs.delete.Goals as goal
 
 pub returns-in-Refused : goal.returns-in-Refused
-returns-in-Refused c = (delete_table (record { columns = s.args.columns.now; rows = s.args.rows.now; list = []; condition = s.args.condition.now; text = s.args.text.now; out = s.args.out.now; used = s.args.used }) _ (told_refused _ _ _ c.in-Refused.is c.check_table-table.ensures), (refl, λ z. refl))
+returns-in-Refused c = record {
+    delete_is = delete_table (record { columns = s.args.columns.now; rows = s.args.rows.now; list = []; condition = s.args.condition.now; text = s.args.text.now; out = s.args.out.now; used = s.args.used }) _ (told_refused _ _ _ c.in-Refused.is c.check_table-table.ensures);
+    text_unchanged = (refl, λ z. refl);
+  }
 
 pub nonzero_div-n : goal.nonzero_div-n
 nonzero_div-n c =
@@ -38,9 +41,15 @@ write_kept-requires c =
 pub returns-in-Refused-mark_table : goal.returns-in-Refused-mark_table
 returns-in-Refused-mark_table c =
     let passed_table : TableStop true (record { columns = s.args.columns.now; rows = s.args.rows.now; list = []; condition = s.args.condition.now; text = s.args.text.now; out = s.args.out.now; used = s.args.used }) ≡ never = told_sound _ _ c.in_default.is c.check_table-table.ensures in
-    (delete_refused (record { columns = s.args.columns.now; rows = s.args.rows.now; list = []; condition = s.args.condition.now; text = s.args.text.now; out = s.args.out.now; used = s.args.used }) _ _ _ _ c.mark_table.ensures passed_table _ c.in-Refused-mark_table.is, (c.mark_table.ensures.kept, c.mark_table.ensures.alone))
+    record {
+    delete_is = delete_refused (record { columns = s.args.columns.now; rows = s.args.rows.now; list = []; condition = s.args.condition.now; text = s.args.text.now; out = s.args.out.now; used = s.args.used }) _ _ _ _ c.mark_table.ensures passed_table _ c.in-Refused-mark_table.is;
+    text_unchanged = (c.mark_table.ensures.kept, c.mark_table.ensures.alone);
+  }
 
 pub returns-in-Rows : goal.returns-in-Rows
 returns-in-Rows c =
     let passed_table : TableStop true (record { columns = s.args.columns.now; rows = s.args.rows.now; list = []; condition = s.args.condition.now; text = s.args.text.now; out = s.args.out.now; used = s.args.used }) ≡ never = told_sound _ _ c.in_default.is c.check_table-table.ensures in
-    (delete_written (record { columns = s.args.columns.now; rows = s.args.rows.now; list = []; condition = s.args.condition.now; text = s.args.text.now; out = s.args.out.now; used = s.args.used }) _ _ _ _ c.mark_table.ensures _ c.in-Rows.is passed_table _ _ c.write_kept.ensures, (c.mark_table.ensures.kept, c.mark_table.ensures.alone))
+    record {
+    delete_is = delete_written (record { columns = s.args.columns.now; rows = s.args.rows.now; list = []; condition = s.args.condition.now; text = s.args.text.now; out = s.args.out.now; used = s.args.used }) _ _ _ _ c.mark_table.ensures _ c.in-Rows.is passed_table _ _ c.write_kept.ensures;
+    text_unchanged = (c.mark_table.ensures.kept, c.mark_table.ensures.alone);
+  }

@@ -12,12 +12,18 @@ use Rattle.selecting.proofs.Calls.{width_of, TableStop, PassedBy, select_table, 
 use Rattle.selecting.proofs.select.Goals as goal
 
 pub returns-in-Refused : goal.returns-in-Refused
-returns-in-Refused c = (select_table (record { columns = s.args.columns.now; rows = s.args.rows.now; list = s.args.list.now; condition = s.args.condition.now; text = s.args.text.now; out = s.args.out.now; used = s.args.used }) _ (told_refused _ _ _ c.in-Refused.is c.check_table-table.ensures), (refl, λ z. refl))
+returns-in-Refused c = record {
+    select_is = select_table (record { columns = s.args.columns.now; rows = s.args.rows.now; list = s.args.list.now; condition = s.args.condition.now; text = s.args.text.now; out = s.args.out.now; used = s.args.used }) _ (told_refused _ _ _ c.in-Refused.is c.check_table-table.ensures);
+    text_unchanged = (refl, λ z. refl);
+  }
 
 pub returns-in-Refused-listed : goal.returns-in-Refused-listed
 returns-in-Refused-listed c =
     let passed_table : TableStop (leb (length c.args.list.now) 32) (record { columns = s.args.columns.now; rows = s.args.rows.now; list = s.args.list.now; condition = s.args.condition.now; text = s.args.text.now; out = s.args.out.now; used = s.args.used }) ≡ never = told_sound _ _ c.in_default.is c.check_table-table.ensures in
-    (select_list (record { columns = s.args.columns.now; rows = s.args.rows.now; list = s.args.list.now; condition = s.args.condition.now; text = s.args.text.now; out = s.args.out.now; used = s.args.used }) passed_table _ (told_refused _ _ _ c.in-Refused-listed.is c.check_list-listed.ensures), (refl, λ z. refl))
+    record {
+    select_is = select_list (record { columns = s.args.columns.now; rows = s.args.rows.now; list = s.args.list.now; condition = s.args.condition.now; text = s.args.text.now; out = s.args.out.now; used = s.args.used }) passed_table _ (told_refused _ _ _ c.in-Refused-listed.is c.check_list-listed.ensures);
+    text_unchanged = (refl, λ z. refl);
+  }
 
 pub nonzero_div-n : goal.nonzero_div-n
 nonzero_div-n c =
@@ -42,10 +48,16 @@ pub returns-in-Refused-mark_table : goal.returns-in-Refused-mark_table
 returns-in-Refused-mark_table c =
     let passed_table : TableStop (leb (length c.args.list.now) 32) (record { columns = s.args.columns.now; rows = s.args.rows.now; list = s.args.list.now; condition = s.args.condition.now; text = s.args.text.now; out = s.args.out.now; used = s.args.used }) ≡ never = told_sound _ _ c.in_default.is c.check_table-table.ensures in
     let passed_list : list_stop (width_of (record { columns = s.args.columns.now; rows = s.args.rows.now; list = s.args.list.now; condition = s.args.condition.now; text = s.args.text.now; out = s.args.out.now; used = s.args.used })) 0 c.args.list.now ≡ never = told_sound _ _ c.in_default-listed.is c.check_list-listed.ensures in
-    (select_refused (record { columns = s.args.columns.now; rows = s.args.rows.now; list = s.args.list.now; condition = s.args.condition.now; text = s.args.text.now; out = s.args.out.now; used = s.args.used }) _ _ _ _ c.mark_table.ensures passed_table passed_list _ c.in-Refused-mark_table.is, (c.mark_table.ensures.kept, c.mark_table.ensures.alone))
+    record {
+    select_is = select_refused (record { columns = s.args.columns.now; rows = s.args.rows.now; list = s.args.list.now; condition = s.args.condition.now; text = s.args.text.now; out = s.args.out.now; used = s.args.used }) _ _ _ _ c.mark_table.ensures passed_table passed_list _ c.in-Refused-mark_table.is;
+    text_unchanged = (c.mark_table.ensures.kept, c.mark_table.ensures.alone);
+  }
 
 pub returns-in-Rows : goal.returns-in-Rows
 returns-in-Rows c =
     let passed_table : TableStop (leb (length c.args.list.now) 32) (record { columns = s.args.columns.now; rows = s.args.rows.now; list = s.args.list.now; condition = s.args.condition.now; text = s.args.text.now; out = s.args.out.now; used = s.args.used }) ≡ never = told_sound _ _ c.in_default.is c.check_table-table.ensures in
     let passed_list : list_stop (width_of (record { columns = s.args.columns.now; rows = s.args.rows.now; list = s.args.list.now; condition = s.args.condition.now; text = s.args.text.now; out = s.args.out.now; used = s.args.used })) 0 c.args.list.now ≡ never = told_sound _ _ c.in_default-listed.is c.check_list-listed.ensures in
-    (select_written (record { columns = s.args.columns.now; rows = s.args.rows.now; list = s.args.list.now; condition = s.args.condition.now; text = s.args.text.now; out = s.args.out.now; used = s.args.used }) _ _ _ _ c.mark_table.ensures _ c.in-Rows.is passed_table passed_list _ _ c.write_kept.ensures, (c.mark_table.ensures.kept, c.mark_table.ensures.alone))
+    record {
+    select_is = select_written (record { columns = s.args.columns.now; rows = s.args.rows.now; list = s.args.list.now; condition = s.args.condition.now; text = s.args.text.now; out = s.args.out.now; used = s.args.used }) _ _ _ _ c.mark_table.ensures _ c.in-Rows.is passed_table passed_list _ _ c.write_kept.ensures;
+    text_unchanged = (c.mark_table.ensures.kept, c.mark_table.ensures.alone);
+  }

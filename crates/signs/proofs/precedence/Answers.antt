@@ -5,19 +5,19 @@ use Rattle.signs.proofs.precedence.Goals as goal
 
 pub returns-in-42 : goal.returns-in-42
 unfolding precedence
-returns-in-42 c = rw c.in-42.in-42-own
+returns-in-42 c = rw c.in-42.is
 
 pub returns-in-43 : goal.returns-in-43
 unfolding precedence
-returns-in-43 c = rw c.in-43.in-43-own
+returns-in-43 c = rw c.in-43.is
 
 pub returns-in-44 : goal.returns-in-44
 unfolding precedence
-returns-in-44 c = rw c.in-44.in-44-own
+returns-in-44 c = rw c.in-44.is
 
 pub returns-in-48 : goal.returns-in-48
 unfolding precedence
-returns-in-48 c = rw c.in-48.in-48-own
+returns-in-48 c = rw c.in-48.is
 
 pub returns-in-0-to-37 : goal.returns-in-0-to-37
 unfolding precedence

@@ -5,11 +5,11 @@ use Rattle.signs.proofs.put_prefix.Goals as goal
 
 pub returns-in-16 : goal.returns-in-16
 unfolding prefix
-returns-in-16 c = rw c.in-16.in-16-own c.put_bytes.ensures
+returns-in-16 c = rw c.in-16.is c.put_bytes.ensures
 
 pub returns-in-17 : goal.returns-in-17
 unfolding prefix
-returns-in-17 c = rw c.in-17.in-17-own c.put_bytes-in-17.ensures
+returns-in-17 c = rw c.in-17.is c.put_bytes-in-17.ensures
 
 pub returns-in_default : goal.returns-in_default
 unfolding prefix

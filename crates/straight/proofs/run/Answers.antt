@@ -73,7 +73,7 @@ pub overflow_add-done : goal.overflow_add-done
 overflow_add-done c = omega (arith, c.loop-at.invariant.worked, c.loop-at-test.true)
 
 pub loop-at-preserved : goal.loop-at-preserved
-loop-at-preserved c = run_two _ _ _ _ _ _ _ _ c.loop-at.invariant c.loop-at-test.true c.wide-k.result c.wide-k.ensures.0 c.if-n-lt2.false (c.two-top.ensures.0 c.if-top.false) c.two-top.result c.if-top.false c.two-top.ensures.1
+loop-at-preserved c = run_two _ _ _ _ _ _ _ _ c.loop-at.invariant c.loop-at-test.true c.wide-k.result c.wide-k.ensures.0 c.if-n-lt2.false (c.two-top.ensures.known c.if-top.false) c.two-top.result c.if-top.false c.two-top.ensures.is
 
 pub returns : goal.returns
 returns c = λ n. run_end _ _ _ _ _ _ _ _ c.loop-at.invariant c.loop-at-test.false _ (c.whole.ensures n)

@@ -9,13 +9,13 @@ pub evaluate-requires : goal.evaluate-requires
 evaluate-requires c = test_asks _ _ _ _ _ c.requires.0 c.requires.1 c.if-n-eq0.false
 
 pub returns-in-Gave : goal.returns-in-Gave
-returns-in-Gave c = λ b A. test_value _ _ _ _ _ b A c.if-n-eq0.false c.args.place _ c.evaluate.auto.text _ c.evaluate.ensures.0 _ _ _ c.in-Gave.is c.by_truth.ensures
+returns-in-Gave c = λ b A. test_value _ _ _ _ _ b A c.if-n-eq0.false c.args.place _ c.evaluate.auto.text _ c.evaluate.ensures.means _ _ _ c.in-Gave.is c.by_truth.ensures
 
 pub returns-in-Overflow : goal.returns-in-Overflow
-returns-in-Overflow c = λ b A. test_overflow _ _ _ _ _ b A c.if-n-eq0.false c.args.place _ c.evaluate.auto.text _ c.evaluate.ensures.0 c.in-Overflow.is
+returns-in-Overflow c = λ b A. test_overflow _ _ _ _ _ b A c.if-n-eq0.false c.args.place _ c.evaluate.auto.text _ c.evaluate.ensures.means c.in-Overflow.is
 
 pub returns-in-ShiftAmount : goal.returns-in-ShiftAmount
-returns-in-ShiftAmount c = λ b A. test_shift _ _ _ _ _ b A c.if-n-eq0.false c.args.place _ c.evaluate.auto.text _ c.evaluate.ensures.0 c.in-ShiftAmount.is
+returns-in-ShiftAmount c = λ b A. test_shift _ _ _ _ _ b A c.if-n-eq0.false c.args.place _ c.evaluate.auto.text _ c.evaluate.ensures.means c.in-ShiftAmount.is
 
 pub returns-in-TooLong : goal.returns-in-TooLong
-returns-in-TooLong c = λ b A. test_long _ _ _ _ _ b A c.if-n-eq0.false c.args.place _ c.evaluate.auto.text _ c.evaluate.ensures.0 c.in-TooLong.is
+returns-in-TooLong c = λ b A. test_long _ _ _ _ _ b A c.if-n-eq0.false c.args.place _ c.evaluate.auto.text _ c.evaluate.ensures.means c.in-TooLong.is

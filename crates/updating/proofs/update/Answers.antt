@@ -12,7 +12,10 @@ use Rattle.updating.proofs.Calls.{TableFor, SetsFor, stored_length, update_table
 use Rattle.updating.proofs.update.Goals as goal
 
 pub returns-in-Refused : goal.returns-in-Refused
-returns-in-Refused c = (update_table (record { columns = s.args.columns.now; rows = s.args.rows.now; list = s.args.sets.now; condition = s.args.condition.now; text = s.args.text.now; out = s.args.out.now; used = s.args.used }) _ (ap (λ x. TableStop x (record { columns = s.args.columns.now; rows = s.args.rows.now; list = s.args.sets.now; condition = s.args.condition.now; text = s.args.text.now; out = s.args.out.now; used = s.args.used })) (sym c.are_sets.ensures) ∙ told_refused _ _ _ c.in-Refused.is c.check_table-table.ensures), (refl, λ z. refl))
+returns-in-Refused c = record {
+    update_is = update_table (record { columns = s.args.columns.now; rows = s.args.rows.now; list = s.args.sets.now; condition = s.args.condition.now; text = s.args.text.now; out = s.args.out.now; used = s.args.used }) _ (ap (λ x. TableStop x (record { columns = s.args.columns.now; rows = s.args.rows.now; list = s.args.sets.now; condition = s.args.condition.now; text = s.args.text.now; out = s.args.out.now; used = s.args.used })) (sym c.are_sets.ensures) ∙ told_refused _ _ _ c.in-Refused.is c.check_table-table.ensures);
+    text_unchanged = (refl, λ z. refl);
+  }
 
 pub check_sets-wrong-requires : goal.check_sets-wrong-requires
 check_sets-wrong-requires c =
@@ -24,7 +27,10 @@ pub returns-in-Refused-wrong : goal.returns-in-Refused-wrong
 returns-in-Refused-wrong c =
     let passed_table : TableFor (record { columns = s.args.columns.now; rows = s.args.rows.now; list = s.args.sets.now; condition = s.args.condition.now; text = s.args.text.now; out = s.args.out.now; used = s.args.used }) ≡ never = ap (λ x. TableStop x (record { columns = s.args.columns.now; rows = s.args.rows.now; list = s.args.sets.now; condition = s.args.condition.now; text = s.args.text.now; out = s.args.out.now; used = s.args.used })) (sym c.are_sets.ensures) ∙ told_sound _ _ c.in_default.is c.check_table-table.ensures in
     let passed : PassedBy (are_sets c.args.sets.now) (record { columns = s.args.columns.now; rows = s.args.rows.now; list = s.args.sets.now; condition = s.args.condition.now; text = s.args.text.now; out = s.args.out.now; used = s.args.used }) = table_passed _ _ _ _ _ _ (passed_table) in
-    (update_sets (record { columns = s.args.columns.now; rows = s.args.rows.now; list = s.args.sets.now; condition = s.args.condition.now; text = s.args.text.now; out = s.args.out.now; used = s.args.used }) passed_table _ (told_refused _ _ _ c.in-Refused-wrong.is (c.check_sets-wrong.ensures _ (stored_length (record { columns = s.args.columns.now; rows = s.args.rows.now; list = s.args.sets.now; condition = s.args.condition.now; text = s.args.text.now; out = s.args.out.now; used = s.args.used }) passed))), (refl, λ z. refl))
+    record {
+    update_is = update_sets (record { columns = s.args.columns.now; rows = s.args.rows.now; list = s.args.sets.now; condition = s.args.condition.now; text = s.args.text.now; out = s.args.out.now; used = s.args.used }) passed_table _ (told_refused _ _ _ c.in-Refused-wrong.is (c.check_sets-wrong.ensures _ (stored_length (record { columns = s.args.columns.now; rows = s.args.rows.now; list = s.args.sets.now; condition = s.args.condition.now; text = s.args.text.now; out = s.args.out.now; used = s.args.used }) passed)));
+    text_unchanged = (refl, λ z. refl);
+  }
 
 pub nonzero_div-n : goal.nonzero_div-n
 nonzero_div-n c =
@@ -50,11 +56,17 @@ returns-in-Refused-mark_table c =
     let passed_table : TableFor (record { columns = s.args.columns.now; rows = s.args.rows.now; list = s.args.sets.now; condition = s.args.condition.now; text = s.args.text.now; out = s.args.out.now; used = s.args.used }) ≡ never = ap (λ x. TableStop x (record { columns = s.args.columns.now; rows = s.args.rows.now; list = s.args.sets.now; condition = s.args.condition.now; text = s.args.text.now; out = s.args.out.now; used = s.args.used })) (sym c.are_sets.ensures) ∙ told_sound _ _ c.in_default.is c.check_table-table.ensures in
     let passed : PassedBy (are_sets c.args.sets.now) (record { columns = s.args.columns.now; rows = s.args.rows.now; list = s.args.sets.now; condition = s.args.condition.now; text = s.args.text.now; out = s.args.out.now; used = s.args.used }) = table_passed _ _ _ _ _ _ (passed_table) in
     let passed_sets : SetsFor (record { columns = s.args.columns.now; rows = s.args.rows.now; list = s.args.sets.now; condition = s.args.condition.now; text = s.args.text.now; out = s.args.out.now; used = s.args.used }) ≡ never = told_sound _ _ c.in_default-wrong.is (c.check_sets-wrong.ensures _ (stored_length (record { columns = s.args.columns.now; rows = s.args.rows.now; list = s.args.sets.now; condition = s.args.condition.now; text = s.args.text.now; out = s.args.out.now; used = s.args.used }) (passed))) in
-    (update_refused (record { columns = s.args.columns.now; rows = s.args.rows.now; list = s.args.sets.now; condition = s.args.condition.now; text = s.args.text.now; out = s.args.out.now; used = s.args.used }) passed_table passed_sets _ _ _ _ c.mark_table.ensures _ c.in-Refused-mark_table.is, (c.mark_table.ensures.kept, c.mark_table.ensures.alone))
+    record {
+    update_is = update_refused (record { columns = s.args.columns.now; rows = s.args.rows.now; list = s.args.sets.now; condition = s.args.condition.now; text = s.args.text.now; out = s.args.out.now; used = s.args.used }) passed_table passed_sets _ _ _ _ c.mark_table.ensures _ c.in-Refused-mark_table.is;
+    text_unchanged = (c.mark_table.ensures.kept, c.mark_table.ensures.alone);
+  }
 
 pub returns-in-Rows : goal.returns-in-Rows
 returns-in-Rows c =
     let passed_table : TableFor (record { columns = s.args.columns.now; rows = s.args.rows.now; list = s.args.sets.now; condition = s.args.condition.now; text = s.args.text.now; out = s.args.out.now; used = s.args.used }) ≡ never = ap (λ x. TableStop x (record { columns = s.args.columns.now; rows = s.args.rows.now; list = s.args.sets.now; condition = s.args.condition.now; text = s.args.text.now; out = s.args.out.now; used = s.args.used })) (sym c.are_sets.ensures) ∙ told_sound _ _ c.in_default.is c.check_table-table.ensures in
     let passed : PassedBy (are_sets c.args.sets.now) (record { columns = s.args.columns.now; rows = s.args.rows.now; list = s.args.sets.now; condition = s.args.condition.now; text = s.args.text.now; out = s.args.out.now; used = s.args.used }) = table_passed _ _ _ _ _ _ (passed_table) in
     let passed_sets : SetsFor (record { columns = s.args.columns.now; rows = s.args.rows.now; list = s.args.sets.now; condition = s.args.condition.now; text = s.args.text.now; out = s.args.out.now; used = s.args.used }) ≡ never = told_sound _ _ c.in_default-wrong.is (c.check_sets-wrong.ensures _ (stored_length (record { columns = s.args.columns.now; rows = s.args.rows.now; list = s.args.sets.now; condition = s.args.condition.now; text = s.args.text.now; out = s.args.out.now; used = s.args.used }) (passed))) in
-    (update_written (record { columns = s.args.columns.now; rows = s.args.rows.now; list = s.args.sets.now; condition = s.args.condition.now; text = s.args.text.now; out = s.args.out.now; used = s.args.used }) passed_table passed_sets _ _ _ _ c.mark_table.ensures _ c.in-Rows.is _ _ c.write_all.ensures, (c.mark_table.ensures.kept, c.mark_table.ensures.alone))
+    record {
+    update_is = update_written (record { columns = s.args.columns.now; rows = s.args.rows.now; list = s.args.sets.now; condition = s.args.condition.now; text = s.args.text.now; out = s.args.out.now; used = s.args.used }) passed_table passed_sets _ _ _ _ c.mark_table.ensures _ c.in-Rows.is _ _ c.write_all.ensures;
+    text_unchanged = (c.mark_table.ensures.kept, c.mark_table.ensures.alone);
+  }

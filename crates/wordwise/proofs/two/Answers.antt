@@ -5,4 +5,7 @@ pub on_ints-requires : goal.on_ints-requires
 on_ints-requires c = record { first = c.if-a-ne1.false; second = c.if-b-ne1.false }
 
 pub returns : goal.returns
-returns c = (c.on_ints.ensures.0, λ R. c.on_ints.ensures.1.settled R c.args.stored.now c.requires.0 c.requires.1)
+returns c = record {
+    known = c.on_ints.ensures.known;
+    is = λ R. c.on_ints.ensures.is.settled R c.args.stored.now c.requires.0 c.requires.1;
+  }

@@ -9,13 +9,13 @@ use native.Mathlib.Omega.{arith}
 use Rattle.cells.proofs.ValueRef.from_word.Goals as goal
 
 pub returns-in-1 : goal.returns-in-1
-returns-in-1 c = ap (λ z. Int (to_z w32 (of_z w32 z))) c.signed.ensures ∙ ap Int (held_int (c.args.word % 2 ^ 32) (omega arith)) ∙ sym (ref_int _ c.in-1.in-1-own)
+returns-in-1 c = ap (λ z. Int (to_z w32 (of_z w32 z))) c.signed.ensures ∙ ap Int (held_int (c.args.word % 2 ^ 32) (omega arith)) ∙ sym (ref_int _ c.in-1.is)
 
 pub returns-in-2 : goal.returns-in-2
-returns-in-2 c = sym (ref_str _ c.in-2.in-2-own)
+returns-in-2 c = sym (ref_str _ c.in-2.is)
 
 pub returns-in-3 : goal.returns-in-3
-returns-in-3 c = sym (ref_binary _ c.in-3.in-3-own)
+returns-in-3 c = sym (ref_binary _ c.in-3.is)
 
 pub returns-in_default : goal.returns-in_default
 returns-in_default c = sym (ref_null _ c.in_default.in_default-own.rest.0.0.1 c.in_default.in_default-own.rest.0.1 c.in_default.in_default-own.rest.1)
