@@ -25,7 +25,7 @@ fn build() -> Result<(), String> {
     println!("cargo:rerun-if-changed={}", archive.display());
     if !archive.is_file() {
         let name = archive.display();
-        return Err(format!("{name} is missing: `rt staticlib ruffleknoll` writes it"));
+        return Err(format!("{name} is missing: `tools/staticlib` writes it"));
     }
     let directory = PathBuf::from(variable("OUT_DIR")?);
     match variable("CARGO_CFG_TARGET_ARCH")?.as_str() {

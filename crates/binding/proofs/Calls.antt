@@ -34,7 +34,7 @@ use Rattle.binding.proofs.Stopping.{room_there, columns_count, accepted_before, 
 use Rattle.binding.proofs.Meaning.{bind_means}
 use Rattle.binding.proofs.Numbered.{numbers_never, height_map, bound_tree}
 
--- well_formed cells are not refused
+-- well-formed cells are not refused
 cells_never : (used p : ℕ) (row : List ℕ) → ((i : ℕ) → i < length row → WellFormed used (get_or row i 0)) → cells_stop used p row ≡ never
 unfolding cells_stop
 cells_never used p [] h = refl

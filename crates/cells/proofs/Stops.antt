@@ -44,7 +44,7 @@ pub ends_inside : (used w : ℕ) → kind_of w ≡ 2 → reaches_beyond used w �
 unfolding reaches_beyond
 ends_inside used w e h = let q : ltb used (start_of w + length_of w) ≡ false = rw (eq-eqb (kind_of w) 2 e) at h in ltb-false _ _ q
 
--- the cell of a well_formed word is inside
+-- the cell of a well-formed word is inside
 pub well_inside : (used w : ℕ) → WellFormed used w → Inside used (ref_of w)
 unfolding Inside
 well_inside used w h = go (eqb (kind_of w) 1) (eqb (kind_of w) 2) (eqb (kind_of w) 3) refl refl refl

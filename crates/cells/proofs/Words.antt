@@ -78,7 +78,7 @@ module _ (w : ℕ) (h : is_cell w ≡ true) where
           let z : bodies_of (kind_of w) ≡ 0 = bodies_other (kind_of w) (eqb-false (kind_of w) 0 e) i s b in
           absurd (omega (arith, few, z))
 
-  -- a well_formed word is the word of its cell
+  -- a well-formed word is the word of its cell
   pub word_back : word_of (ref_of w) ≡ w
   unfolding word_of
   word_back = go (eqb (kind_of w) 1) (eqb (kind_of w) 2) (eqb (kind_of w) 3) refl refl refl

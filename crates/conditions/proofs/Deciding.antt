@@ -1,4 +1,4 @@
--- AND and OR, and what a two_sided_lem operator gives. Assumes nothing.
+-- AND and OR, and what a two-sided operator gives. Assumes nothing.
 use mathlib.Core.Bool.{Bool, true, false, cond}
 use Prim.Native.Nat.{ℕ}
 use lib.Dec.{ltb}
@@ -9,7 +9,7 @@ use Rattle.operators.specs.declared.Rules.{Rules}
 use Rattle.operators.proofs.Holding.{Int32, Holds, holds_binary, holds_truth}
 use Rattle.conditions.specs.Ast.{two_sided}
 
--- what a two_sided_lem operator gives of values whose Ints have 32 bits, a cell can hold
+-- what a two-sided operator gives of values whose Ints have 32 bits, a cell can hold
 pub holds_two_sided : (R : Rules) (op : ℕ) (v w : Value) → Int32 v → Int32 w → Holds R.limit (two_sided R op v w)
 unfolding two_sided
 holds_two_sided R op v w h k = go (ltb op 47)

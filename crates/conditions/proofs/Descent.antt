@@ -29,7 +29,7 @@ pub record OneSound (used width d k : ℕ) (nodes : List ℕ) (op : ℕ) : Type 
   pub only : Sound used width (d - 1) nodes (k - 1)
   pub tree : (base : List ℕ) → tree_of base d nodes k ≡ unary op (tree_of base (d - 1) nodes (k - 1))
 
--- a known two_sided_lem operator over two sound trees before it
+-- a known two-sided operator over two sound trees before it
 pub record TwoSound (used width d k : ℕ) (nodes : List ℕ) (op l : ℕ) : Type 0 where
   pub known : (32 ≤ op) × (op < 50)
   pub left_below : l < k
@@ -61,7 +61,7 @@ module _ (used width d k : ℕ) (nodes : List ℕ) (S : Sound used width d nodes
       let h : ((16 ≤ op) × (op < 19)) × (0 < k) × Sound used width (d - 1) nodes (k - 1) = rw e at at_node in
       record { known = h.0; below = h.1; only = h.2; tree = λ base. tree_step base d nodes k deep ∙ rw e }
 
-  -- where a two_sided_lem operator stands, its operands are sound too
+  -- where a two-sided operator stands, its operands are sound too
   pub sound_two : {op l : ℕ} → node_of (get_or nodes k 0) ≡ Two op l → TwoSound used width d k nodes op l
   sound_two {op} {l} e =
       let h : ((32 ≤ op) × (op < 50)) × (l < k) × Sound used width (d - 1) nodes l × Sound used width (d - 1) nodes (k - 1) = rw e at at_node in

@@ -126,7 +126,7 @@ value_take m t (Int z) h = refl
 value_take m t (Str s n) h = ap str (piece_take m s n t h)
 value_take m t Binary h = refl
 
--- a well_formed cell means what it meant before the text grew above it
+-- a well-formed cell means what it meant before the text grew above it
 pub value_more : (t u : ℕ) (x y : List ℕ) (w : ℕ) → t ≤ u → WellFormed t w → take t y ≡ take t x → value_of (take u y) w ≡ value_of (take t x) w
 value_more t u x y w l h e =
     value_take u y (ref_of w) (well_inside u w (inside_more t u w l h)) ∙ sym (value_take t y (ref_of w) (well_inside t w h)) ∙ ap (λ z. value_of z w) e

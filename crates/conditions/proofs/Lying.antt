@@ -1,11 +1,11 @@
 -- Where the cell of an answer lies. Assumes nothing.
-use mathlib.Core.Path.{◌≡◌}
+use mathlib.Core.Path.{◌≡◌, refl}
 use mathlib.Core.List.{List, [], ◌∷◌}
 use Prim.Native.Nat.{ℕ, ◌+◌, ◌*◌, ◌^◌, ◌/◌, ◌%◌, ◌≤◌, ◌<◌}
 use native.Mathlib.Omega.{arith}
 use lib.ListN.{length}
 use denote.Enum.Declared.{tag_of}
-use types.Run.{OneOf, miss}
+use types.Run.{OneOf, hit, miss}
 use mir.Syntax.{w32}
 use mir.Val.{of_z}
 use mir.Facts.{Fits-of_z}
@@ -19,6 +19,13 @@ use Rattle.operators.proofs.Holding.{Fitting, Holds}
 use Rattle.conditions.specs.Table.{Lies, LeafIs}
 use Rattle.conditions.specs.declared.Node.{Node}
 use Rattle.conditions.specs.declared.Node.TheVariants.{Leaf, One, Two}
+
+-- an answer that is no value is one of the refusals
+pub among_refusals : (r : Answer) → ((w u : ℕ) → r ≡ Gave w u → ⊥) → OneOf (1 ∷ 2 ∷ 3 ∷ []) (tag_of the_type r)
+among_refusals (Gave w u) h = absurd (h w u refl)
+among_refusals Overflow h = hit (1 ∷ 2 ∷ 3 ∷ []) 1 tt
+among_refusals ShiftAmount h = hit (1 ∷ 2 ∷ 3 ∷ []) 2 tt
+among_refusals TooLong h = hit (1 ∷ 2 ∷ 3 ∷ []) 3 tt
 
 -- a refusal lies nowhere
 pub lies_refused : (top : ℕ) (node : Node) (row : List ℕ) (r : Answer) → OneOf (1 ∷ 2 ∷ 3 ∷ []) (tag_of the_type r) → Lies top node row r

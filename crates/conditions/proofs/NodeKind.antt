@@ -23,7 +23,7 @@ module _ (w : ℕ) where
   unfolding node_of
   node_one h k = rw (le-ltb (w / 2 ^ 56) 16 h, lt-ltb (w / 2 ^ 56) 32 k)
 
-  -- one from 32 on is a two_sided_lem operator, with the index of its left operand
+  -- one from 32 on is a two-sided operator, with the index of its left operand
   pub node_two : 32 ≤ w / 2 ^ 56 → node_of w ≡ Two (w / 2 ^ 56) (w % 2 ^ 56)
   unfolding node_of
   node_two h = rw (le-ltb (w / 2 ^ 56) 16 (omega arith), le-ltb (w / 2 ^ 56) 32 h)

@@ -61,7 +61,7 @@ height (leaf x) = 1
 height (unary op a) = height a + 1
 height (binary op a b) = max (height a) (height b) + 1
 
--- how many two_sided_lem operators it has: each may join two texts
+-- how many two-sided operators it has: each may join two texts
 unfoldable pub joins : {A : Type 0} → Tree A → ℕ
 joins (leaf x) = 0
 joins (unary op a) = joins a

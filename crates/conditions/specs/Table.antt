@@ -12,7 +12,7 @@ use Rattle.conditions.specs.Ast.{Ast, Atom, leaf, literal, column, named, unary,
 use Rattle.conditions.specs.declared.Node.{Node}
 use Rattle.conditions.specs.declared.Node.TheVariants.{Leaf, One, Two}
 
--- the node of a word, kind × 2^56 + body: a leaf's body is its cell's or its column's, a two_sided_lem operator's the index of its left operand
+-- the node of a word, kind × 2^56 + body: a leaf's body is its cell's or its column's, a two-sided operator's the index of its left operand
 unfoldable pub node_of : ℕ → Node
 node_of w = cond (ltb (w / 2 ^ 56) 16) (Leaf w) (cond (ltb (w / 2 ^ 56) 32) (One (w / 2 ^ 56)) (Two (w / 2 ^ 56) (w % 2 ^ 56)))
 

@@ -53,7 +53,7 @@ pub fn truth(word: u64) -> bool
     values::to_bool(ValueRef::from_word(word))
 }
 
-// Whether a two_sided_lem operator is decided by its left operand.
+// Whether a two-sided operator is decided by its left operand.
 pub fn decided(op: u64, left: u64) -> bool
     ensures { (stored : List ℕ) → WellFormed (length stored) left → result ≡ decides op (value_of stored left) }
 {
@@ -66,7 +66,7 @@ pub fn decided(op: u64, left: u64) -> bool
     false
 }
 
-// A two_sided_lem operator whose left operand has not decided it.
+// A two-sided operator whose left operand has not decided it.
 fn apply(rules: Rules, op: u64, left: u64, right: u64, text: &mut [u8], top: usize) -> Answer
     requires { (32 ≤ op) × (op < 50) × Room rules top (length text.old) × WellFormed top left × WellFormed top right }
     ensures { Applied text.old text.new top result

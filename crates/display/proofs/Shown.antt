@@ -40,7 +40,7 @@ module _ (stored : List ℕ) (w : ℕ) where
   unfolding display to_value
   shown_null i s b = rw (ref_null w i s b)
 
-  -- a text of a well_formed word ends within the stored text
+  -- a text of a well-formed word ends within the stored text
   pub text_inside : kind_of w ≡ 2 → WellFormed (length stored) w → start_of w + length_of w ≤ length stored
   text_inside e h = ends_inside (length stored) w e (never_stops (length stored) w 0 h).1
 

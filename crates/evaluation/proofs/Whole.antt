@@ -70,7 +70,7 @@ denotes_sound used width nodes (suc d) k (binary op a b) h l n q = (
   ),
 )
 
--- 64 nodes have at most 31 two_sided_lem operators, so 32,768 bytes always suffice for the texts that one evaluation joins
+-- 64 nodes have at most 31 two-sided operators, so 32,768 bytes always suffice for the texts that one evaluation joins
 pub joins_size : (t : Tree ℕ) → joins t + joins t + 1 ≤ size t
 unfolding joins size
 joins_size (leaf w) = omega arith

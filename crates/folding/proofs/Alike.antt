@@ -65,7 +65,7 @@ module _ (R : Rules) (row : List Value) where
   unfolding eval
   eval_one op a x e = ap (λ o. and_then o (unary_of R op)) e
 
-  -- and under a two_sided_lem one
+  -- and under a two-sided one
   eval_two : (op : ℕ) (a b x y : Ast) → eval R row a ≡ eval R row x → eval R row b ≡ eval R row y → eval R row (binary op a b) ≡ eval R row (binary op x y)
   unfolding eval
   eval_two op a b x y e f = ap₂ (λ o p. and_then o (λ v. cond (decides op v) (value (from_bool (to_bool v))) (and_then p (two_sided R op v)))) e f
@@ -75,7 +75,7 @@ module _ (R : Rules) (row : List Value) where
   unfolding eval
   over_one op a v e = ap (λ o. and_then o (unary_of R op)) e
 
-  -- a two_sided_lem one over two, neither AND nor OR
+  -- a two-sided one over two, neither AND nor OR
   over_two : (op : ℕ) (a b : Ast) (v w : Value) → op < 47 → eval R row a ≡ value v → eval R row b ≡ value w → eval R row (binary op a b) ≡ binary_of R op v w
   unfolding eval decides two_sided
   over_two op a b v w l e f = rw (e, f, ne_eqb op 48 (λ q. omega arith), ne_eqb op 49 (λ q. omega arith), lt-ltb op 47 l)
@@ -101,7 +101,7 @@ pub record Alike (R : Rules) (t : Tree ℕ) (s : List ℕ) (t' : Tree ℕ) (s' :
   pub alike : (row : List Value) → AllHeld (length s) t → length s + 1024 * joins t ≤ 65536 → eval_in R row s t ≡ eval_in R row s' t'
 
 module _ (R : Rules) where
-  -- the operands of a two_sided_lem operator, over the stored text after both
+  -- the operands of a two-sided operator, over the stored text after both
   module _ {a b x y : Tree ℕ} {s s₁ s₂ : List ℕ} (row : List Value) (g : Grown a s x s₁) (k : Grown b s₁ y s₂) (room : length s + 1024 * (joins a + joins b) ≤ 65536) where
     -- the left one
     left_alike : Alike R a s x s₁ → AllHeld (length s) a → eval_in R row s a ≡ eval_in R row s₂ x
@@ -117,7 +117,7 @@ module _ (R : Rules) where
   unfolding map_tree AllHeld joins
   alike_one {op} i = record { alike = λ row h room. eval_one R row op _ _ (i.alike row h room) }
 
-  -- a two_sided_lem one
+  -- a two-sided one
   alike_two : {op : ℕ} {a b x y : Tree ℕ} {s s₁ s₂ : List ℕ} → Grown a s x s₁ → Grown b s₁ y s₂ → Alike R a s x s₁ → Alike R b s₁ y s₂
       → Alike R (binary op a b) s (binary op x y) s₂
   unfolding map_tree AllHeld joins
@@ -134,7 +134,7 @@ module _ (R : Rules) where
         ∙ sym (eval_value R row 0 s₁ v (omega arith) (omega (arith, g.few)) (literal_one R op s₁ w v e));
   }
 
-  -- a two_sided_lem one
+  -- a two-sided one
   value_alike_two : {op w u : ℕ} {a b : Tree ℕ} {s s₁ s₂ : List ℕ} (v : Value) → R.limit ≤ 1024 → Grown a s (leaf w) s₁ → Grown b s₁ (leaf u) s₂
       → Alike R a s (leaf w) s₁ → Alike R b s₁ (leaf u) s₂ → op < 47 → kind_of w < 3 → kind_of u < 3
       → binary_of R op (value_of s₂ w) (value_of s₂ u) ≡ value v → Alike R (binary op a b) s (literal_at s₂ v) (s₂ ++ appended v)

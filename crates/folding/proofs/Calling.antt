@@ -90,7 +90,7 @@ module _ (R : Rules) (limit : R.limit ≤ 1024) (b text out : List ℕ) (used n 
   enough : (length text ≤ 65536) × (used + 32768 ≤ length text)
   enough = there b (length text) used (length out) p.0
 
-  -- 64 nodes have at most 31 two_sided_lem operators, and each node has at most 7 bytes
+  -- 64 nodes have at most 31 two-sided operators, and each node has at most 7 bytes
   pub asks : (space : List ℕ) → length space ≡ 448 → FoldAsks R used used 16 (n - 1) 0 0 nodes text space t
   asks space s = record {
     marks = omega arith;

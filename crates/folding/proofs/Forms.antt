@@ -241,7 +241,7 @@ module _ (used : ℕ) where
 
 -- ---- texts below the mark
 
--- a readable leaf that is no column is a well_formed cell
+-- a readable leaf that is no column is a well-formed cell
 leaf_well : (form : Allowed) (used w : ℕ) → LeafReadable form used w → (kind_of w ≡ 3 → ⊥) → (kind_of w ≡ 4 → ⊥) → WellFormed used w
 unfolding bodies_of long
 leaf_well form used w r n m = by (kind_of w) refl

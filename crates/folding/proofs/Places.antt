@@ -24,7 +24,7 @@ width_one : (op : ℕ) (a : Tree ℕ) → width (unary op a) ≡ width a + 1
 unfolding bytes_of
 width_one op a = length-append (bytes_of a) (op ∷ [])
 
--- a two_sided_lem one's after both
+-- a two-sided one's after both
 width_two : (op : ℕ) (a b : Tree ℕ) → width (binary op a b) ≡ width a + (width b + 1)
 unfolding bytes_of
 width_two op a b = length-append (bytes_of a) (bytes_of b ++ (op ∷ [])) ∙ ap (λ n. width a + n) (length-append (bytes_of b) (op ∷ []))

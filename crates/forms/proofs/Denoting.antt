@@ -40,7 +40,7 @@ module _ (used k : ℕ) (nodes : List ℕ) where
       record { only = a; whole = ap (λ y. unary y a) q; known = subst (λ y. (16 ≤ y) × (y < 19)) q d.1; below = d.2; denotes = d.3 }
   one_at (binary o a b) op d e = absurd (let f : Two o d.0 ≡ One op = sym d.1 ∙ e in let z : ◌≡◌ {A = ℕ} 0 1 = cc in omega arith)
 
-  -- the operands of a two_sided_lem one
+  -- the operands of a two-sided one
   pub record TwoAt (op l : ℕ) (t : Tree ℕ) : Type 0 where
     pub left : Tree ℕ
     pub right : Tree ℕ
@@ -50,7 +50,7 @@ module _ (used k : ℕ) (nodes : List ℕ) where
     pub left_denotes : Denotes used nodes l left
     pub right_denotes : Denotes used nodes (k - 1) right
 
-  -- where a two_sided_lem operator stands, the tree is that operator over its operands
+  -- where a two-sided operator stands, the tree is that operator over its operands
   pub two_at : (t : Tree ℕ) (op l : ℕ) → Denotes used nodes k t → node_of (get_or nodes k 0) ≡ Two op l → TwoAt op l t
   unfolding Denotes
   two_at (leaf x) op l d e = absurd (let f : Leaf x ≡ Two op l = sym d.0 ∙ e in let z : ◌≡◌ {A = ℕ} 0 1 = cc in omega arith)
@@ -87,7 +87,7 @@ module _ {used k op : ℕ} {nodes : List ℕ} {t : Tree ℕ} (one : OneAt used k
   unfolding height
   one_height = ap height one.whole
 
-  -- no two_sided_lem operator more
+  -- no two-sided operator more
   pub one_joins : joins t ≡ joins one.only
   unfolding joins
   one_joins = ap joins one.whole
@@ -107,7 +107,7 @@ module _ {used k op l : ℕ} {nodes : List ℕ} {t : Tree ℕ} (two : TwoAt used
   unfolding height
   two_height = ap height two.whole
 
-  -- one two_sided_lem operator more than both
+  -- one two-sided operator more than both
   pub two_joins : joins t ≡ joins two.left + joins two.right + 1
   unfolding joins
   two_joins = ap joins two.whole

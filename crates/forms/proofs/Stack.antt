@@ -20,7 +20,7 @@ use Rattle.forms.specs.declared.Step.TheVariants.{Took}
 one_node : (k : ℕ) → 16 ≤ k → k < 32 → node_of (k * 2 ^ 56) ≡ One k
 one_node k l u = let e : k * 2 ^ 56 / 2 ^ 56 ≡ k = omega arith in node_one (k * 2 ^ 56) (omega (arith, e, l)) (omega (arith, e, u)) ∙ ap One e
 
--- the node of a two_sided_lem operator's word, whose body is x
+-- the node of a two-sided operator's word, whose body is x
 two_node : (k x : ℕ) → 32 ≤ k → x < 2 ^ 56 → node_of (k * 2 ^ 56 + x) ≡ Two k x
 two_node k x l u =
     let e : (k * 2 ^ 56 + x) / 2 ^ 56 ≡ k = omega arith in

@@ -29,7 +29,7 @@ abbrev pub on_one : ℕ → List (Tree ℕ) → ℕ → Move
 on_one op [] next = stop 1
 on_one op (a ∷ s) next = pushed (unary op a) s next
 
--- a two_sided_lem operator takes the two trees on top, the right one uppermost
+-- a two-sided operator takes the two trees on top, the right one uppermost
 abbrev pub on_two : ℕ → List (Tree ℕ) → ℕ → Move
 on_two op [] next = stop 1
 on_two op (b ∷ []) next = stop 1

@@ -58,7 +58,7 @@ fn scan_one(k: u64, at: usize, next: usize, starts: &[usize], deeps: &[usize], n
     }
 }
 
-// A two_sided_lem operator on the top two of the stack.
+// A two-sided operator on the top two of the stack.
 fn scan_two(k: u64, at: usize, next: usize, starts: &[usize], deeps: &[usize], n: usize) -> Step
     requires { ((32 ≤ k) × (k < 50)) × ((n < 64) × Marks starts.now deeps.now n) }
     ensures fine { OperatorFine at n next result }

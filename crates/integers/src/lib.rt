@@ -94,7 +94,7 @@ fn shift(op: u64, a: u64, y: i64, top: usize) -> Answer
     narrow(int_of(a) >> amount, top)
 }
 
-// A two_sided_lem operator on two Ints' words.
+// A two-sided operator on two Ints' words.
 pub fn on_ints(op: u64, a: u64, b: u64, top: usize) -> Answer
     requires { (38 ≤ op) × (op < 47) }
     ensures { reply_of result ≡ placed top (on_ints op (int_of a) (int_of b)) }

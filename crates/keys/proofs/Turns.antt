@@ -7,11 +7,8 @@ use native.Mathlib.Omega.{arith}
 use native.Mathlib.Numerals.{add-one}
 use lib.ListN.{length, drop, get_or, length-map, get_or-map, drop_of_length-le}
 use lib.Seq.{drop-cons}
-use denote.Enum.Declared.{tag_of}
-use types.Run.{OneOf, miss}
 use Rattle.slices.specs.declared.Ordering.{Ordering}
 use Rattle.slices.specs.declared.Ordering.TheVariants.{Less, Equal, Greater}
-use Rattle.slices.specs.contracts.Ordering.{the_type}
 use Rattle.values.specs.Value.{Value, value_of}
 use Rattle.values.specs.Order.{order}
 use Rattle.rules.specs.Rule.{is_key}
@@ -48,9 +45,9 @@ by_column true o later = refl
 by_column false o later = refl
 
 -- one that isn't Equal decides
-decided : (o later : Ordering) → OneOf (0 ∷ 2 ∷ []) (tag_of the_type o) → then_by o later ≡ o
+decided : (o later : Ordering) → (o ≡ Equal → ⊥) → then_by o later ≡ o
 decided Less later n = refl
-decided Equal later n = absurd (miss (0 ∷ 2 ∷ []) 1 tt n)
+decided Equal later n = absurd (n refl)
 decided Greater later n = refl
 
 -- rows without values are equal
@@ -77,7 +74,7 @@ module _ (columns stored first second : List ℕ) where
 
   module _ (i : ℕ) (C : Comparable columns (length stored) first second) (h : i < length first) (o : Ordering) (e : o ≡ here i) where
     -- left at the first column that isn't Equal
-    pub leaves : OneOf (0 ∷ 2 ∷ []) (tag_of the_type o) → rest i ≡ o
+    pub leaves : (o ≡ Equal → ⊥) → rest i ≡ o
     leaves n = turn i C h ∙ ap (λ x. then_by x (rest (i + 1))) (sym e) ∙ decided o (rest (i + 1)) n
 
     -- an Equal column leaves the later ones
@@ -89,7 +86,7 @@ module _ (columns stored first second : List ℕ) where
   end i h = rw (row_end stored first i h) (no_values _ _)
 
 -- of two rows the second only where the order is Greater
-pub first_picked : (o : Ordering) (first second : List ℕ) → OneOf (0 ∷ 1 ∷ []) (tag_of the_type o) → first ≡ pick o first second
+pub first_picked : (o : Ordering) (first second : List ℕ) → (o ≡ Greater → ⊥) → first ≡ pick o first second
 first_picked Less first second n = refl
 first_picked Equal first second n = refl
-first_picked Greater first second n = absurd (miss (0 ∷ 1 ∷ []) 2 tt n)
+first_picked Greater first second n = absurd (n refl)

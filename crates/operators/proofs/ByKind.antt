@@ -71,7 +71,7 @@ not_int t w n = by_kind t w (λ v. is_int v ≡ false) (λ x k. absurd (n k)) (�
 pub not_str : (t : List ℕ) (w : ℕ) → (kind_of w ≡ 2 → ⊥) → is_str (value_of t w) ≡ false
 not_str t w n = by_kind t w (λ v. is_str v ≡ false) (λ x k. refl) (λ a k. absurd (n k)) refl refl
 
--- ---- two_sided_lem operators
+-- ---- two-sided operators
 
 either_null : (b : Bool) (o : Outcome) → o ≡ value null → cond b (value null) o ≡ value null
 either_null true o e = refl

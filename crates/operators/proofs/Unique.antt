@@ -17,7 +17,7 @@ pub one_flag : (b : Bool) (r s : ℕ) → ((top : ℕ) → gave r top ≡ placed
     → ((top : ℕ) → gave s top ≡ placed top (value (from_bool b))) → r ≡ s
 one_flag b r s f g = one_gave (f 0 ∙ sym (g 0))
 
--- the two_sided_lem operators
+-- the two-sided operators
 pub one_result : {before after after' : List ℕ} {top : ℕ} {r s : Answer} {o : Outcome}
     → Applied before after top r o → Applied before after' top s o → (r ≡ s) × (after ≡ after')
 one_result {r = r} {s = s} v w = (one_answer r s (v.reply ∙ sym w.reply), v.text ∙ sym w.text)

@@ -36,7 +36,7 @@ module _ (R : Rules) (op : ℕ) where
   pub literal_one : (s : List ℕ) (w : ℕ) (v : Value) → unary_of R op (value_of s w) ≡ value v → Literal 0 v
   literal_one s w v e = of_result_lem 0 v (subst Result e (result_unary R op (value_of s w))) (subst (Holds 0) e (holds_unary 0 R op (value_of s w)))
 
-  -- a two_sided_lem one a text within the limit
+  -- a two-sided one a text within the limit
   pub literal_two : (s : List ℕ) (w u : ℕ) (v : Value) → binary_of R op (value_of s w) (value_of s u) ≡ value v → Literal R.limit v
   literal_two s w u v e =
       of_result_lem R.limit v (subst Result e (result_binary R op (value_of s w) (value_of s u)))

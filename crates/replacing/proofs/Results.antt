@@ -90,7 +90,7 @@ module _ (R : Rules) (op : ℕ) where
   result_kinds (str a) binary = result_null
   result_kinds binary w = result_null
 
-  -- the two_sided_lem operators but AND and OR
+  -- the two-sided operators but AND and OR
   pub result_binary : (v w : Value) → Result (binary_of R op v w)
   unfolding binary_of compared
   result_binary v w = result_cond (ltb op 38) (result_flag _) (result_cond (both (eqb op 41) (is_int_zero w)) result_null (result_kinds v w))

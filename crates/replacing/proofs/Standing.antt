@@ -171,9 +171,9 @@ module _ (R : Rules) (op place start word end top : ℕ) (x : Tree ℕ) (s text 
         refl,
       )
 
--- ---- a two_sided_lem operator
+-- ---- a two-sided operator
 
--- what a two_sided_lem operator gives, its text standing at the old top
+-- what a two-sided operator gives, its text standing at the old top
 two_becomes : (R : Rules) (op : ℕ) (s before after : List ℕ) (v w top : ℕ) (r : Answer) → R.limit ≤ 1024 → top ≤ length before → Stored before s top → length s ≤ 65536
     → Applied before after top r (binary_of R op (value_of s v) (value_of s w)) → Becomes after s (binary_of R op (value_of s v) (value_of s w))
 two_becomes R op s before after v w top r limit long T small A = record {

@@ -48,7 +48,7 @@ replaced place stored (Outcome.refused number) = Folding.refused number place
 abbrev pub fold_one : Rules → ℕ → ℕ → Tree ℕ → List ℕ → Folding
 fold_one R place op a stored = cond (is_literal a) (replaced place stored (unary_of R op (value_of stored (leaf_word_of a)))) (folded (unary op a) stored)
 
--- a two_sided_lem operator at an offset, its operands folded; never AND (48) or OR (49)
+-- a two-sided operator at an offset, its operands folded; never AND (48) or OR (49)
 abbrev pub fold_two : Rules → ℕ → ℕ → Tree ℕ → Tree ℕ → List ℕ → Folding
 fold_two R place op a b stored =
     cond (both (ltb op 47) (both (is_literal a) (is_literal b)))

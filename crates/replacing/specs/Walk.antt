@@ -76,7 +76,7 @@ pub record Becomes (text s : List ℕ) (o : Outcome) : Type 0 where
   pub literal : (v : Value) → o ≡ value v → Literal 1024 v
   pub stored : (v : Value) → o ≡ value v → take (length s + length (appended v)) text ≡ s ++ appended v
 
--- what a two_sided_lem operator asks: two operands that are well formed where they are literals, room for a joined text, space for the bytes
+-- what a two-sided operator asks: two operands that are well formed where they are literals, room for a joined text, space for the bytes
 pub record TwoAsks (R : Rules) (op left right top place start end size space : ℕ) : Type 0 where
   pub known : (32 ≤ op) × (op < 50)
   pub room : Room R top size

@@ -59,7 +59,7 @@ pub fn fold_one(
     Part::Folded(op * 0x100_0000_0000_0000, end + 1, top, place + 1)
 }
 
-// Whether a two_sided_lem operator gives way to its value: never AND (48) or OR (49), and only over two literals.
+// Whether a two-sided operator gives way to its value: never AND (48) or OR (49), and only over two literals.
 pub fn folds(op: u64, left: u64, right: u64) -> bool
     ensures { result ≡ both (ltb op 47) (both (ltb (kind_of left) 3) (ltb (kind_of right) 3)) }
 {
@@ -72,7 +72,7 @@ pub fn folds(op: u64, left: u64, right: u64) -> bool
     right < 0x300_0000_0000_0000
 }
 
-// A two_sided_lem operator at an offset, over operands that stand in the output from start to end.
+// A two-sided operator at an offset, over operands that stand in the output from start to end.
 pub fn fold_two(
     rules: Rules,
     op: u64,

@@ -58,7 +58,7 @@ fn leaf(condition: &[u8], at: usize, row: &[u64]) -> Operand
     }
 }
 
-// A two_sided_lem operator on two words, where they are sound and there is room.
+// A two-sided operator on two words, where they are sound and there is room.
 fn two_sided(op: u64, a: u64, b: u64, text: &mut [u8], used: usize) -> Answer
     ensures { length text.new ≡ length text.old }
 {

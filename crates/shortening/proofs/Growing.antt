@@ -59,7 +59,7 @@ grown_one : {op : ℕ} {a x : Tree ℕ} {s s₁ : List ℕ} → Grown a s x s₁
 unfolding size height joins AllHeld
 grown_one g = record { more = g.more; few = g.few; small = omega arith; shallow = omega arith; held = g.held }
 
--- a two_sided_lem one
+-- a two-sided one
 grown_two : {op : ℕ} {a b x y : Tree ℕ} {s s₁ s₂ : List ℕ} → Grown a s x s₁ → Grown b s₁ y s₂ → Grown (binary op a b) s (binary op x y) s₂
 unfolding size height joins AllHeld
 grown_two {b = b} {x = x} {s = s} {s₁ = s₁} {s₂ = s₂} g k = record {

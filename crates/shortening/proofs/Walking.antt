@@ -158,7 +158,7 @@ module _ (R : Rules) (used top depth k at end : ℕ) (nodes text out : List ℕ)
             let f : fold R at t s₀ ≡ fold_one R place op said.0 said.1 = one_fold ∙ ap (λ y. and_fold y (λ x s. fold_one R (at + width a) op x s)) said.2 ∙ ap (λ n. fold_one R n op said.0 said.1) (sym said.5) in
             record { kept = g.kept; says = rw (w, f) (h said.0 said.1 text₁ front said.3 said.4 small_text ahead) }
 
-  -- a two_sided_lem operator
+  -- a two-sided operator
   module _ (op l : ℕ) (e : node_of (get_or nodes k 0) ≡ Two op l) where
     abbrev pub two : TwoAt used k nodes op l t
     two = two_at used k nodes t op l A.denotes e

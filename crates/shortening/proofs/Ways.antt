@@ -70,7 +70,7 @@ module _ (R : Rules) (at : ℕ) where
           goes_replaced (at + width a) (unary op a) s s₁ o (λ v f. value_one (subst (λ y. Folds R a s y s₁) q.0 h) q.1 f) (λ n f. own_one _ f)
       by false e = kept_one h
 
-  -- a two_sided_lem one, its operands folded
+  -- a two-sided one, its operands folded
   goes_two : (op : ℕ) (a b x y : Tree ℕ) (s s₁ s₂ : List ℕ) → Folds R a s x s₁ → Folds R b s₁ y s₂ → Goes R at (binary op a b) s (fold_two R (at + width a + width b) op x y s₂)
   goes_two op a b x y s s₁ s₂ h k = by (ltb op 47) (is_literal x) (is_literal y) refl refl refl
     where

@@ -24,7 +24,7 @@ pub prefix_short : (op : ℕ) → length (prefix op) ≤ 4
 unfolding prefix
 prefix_short op = either (eqb op 16) _ _ 4 (omega arith) (either (eqb op 17) _ _ 4 (omega arith) (omega arith))
 
--- 9 is the highest, of two_sided_lem operators
+-- 9 is the highest, of two-sided operators
 pub precedence_small : (op : ℕ) → precedence op ≤ 9
 unfolding precedence
 precedence_small op = by (ltb op 38) (ltb op 40) (ltb op 42) (eqb op 42) (eqb op 43) (eqb op 44) (ltb op 47) (eqb op 48)

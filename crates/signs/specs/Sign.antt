@@ -8,7 +8,7 @@ precedence op =
     (cond (ltb op 40) 8
     (cond (ltb op 42) 9 (cond (eqb op 42) 6 (cond (eqb op 43) 4 (cond (eqb op 44) 5 (cond (ltb op 47) 7 (cond (eqb op 48) 2 1)))))))
 
--- the sign of a two_sided_lem operator, in the order of the kinds: = != < <= > >= + - * / & | ^ << >>, then AND and OR
+-- the sign of a two-sided operator, in the order of the kinds: = != < <= > >= + - * / & | ^ << >>, then AND and OR
 unfoldable pub sign : ℕ → List ℕ
 sign op =
     cond (eqb op 32) (61 ∷ [])

@@ -6,7 +6,7 @@ ghost use Rattle.slices.specs.Splice.{piece};
 ghost use Rattle.puts.specs.Put.{Puts};
 ghost use Rattle.signs.specs.Sign.{precedence, signs, spaced, prefix};
 
-// The precedence of a two_sided_lem operator.
+// The precedence of a two-sided operator.
 pub fn precedence(op: u64) -> u64
     ensures { result ≡ precedence op }
 {
@@ -23,7 +23,7 @@ pub fn precedence(op: u64) -> u64
     }
 }
 
-// Where the sign of a two_sided_lem operator stands in `signs`, one space each side: 8 times its start, and its length.
+// Where the sign of a two-sided operator stands in `signs`, one space each side: 8 times its start, and its length.
 fn sign_place(op: u64) -> usize
     ensures { (piece (result / 8) (result % 8) signs ≡ spaced op) × (result / 8 + result % 8 ≤ 43) × (result % 8 ≤ 5) }
 {
@@ -48,7 +48,7 @@ fn sign_place(op: u64) -> usize
     }
 }
 
-// The sign of a two_sided_lem operator, out of the text of all signs.
+// The sign of a two-sided operator, out of the text of all signs.
 fn put_from(text: &[u8], op: u64, out: &mut [u8], at: usize) -> usize
     requires { (text.now ≡ signs) × (at + 5 < 2 ^ 64) }
     ensures { Puts out.old at (spaced op) result out.new }
@@ -59,7 +59,7 @@ fn put_from(text: &[u8], op: u64, out: &mut [u8], at: usize) -> usize
     puts::put_bytes(&text[start..end], out, at)
 }
 
-// The sign of a two_sided_lem operator, with one space each side. All stand in one text: 17 of them here would be proved one by one.
+// The sign of a two-sided operator, with one space each side. All stand in one text: 17 of them here would be proved one by one.
 pub fn put_sign(op: u64, out: &mut [u8], at: usize) -> usize
     requires { at + 5 < 2 ^ 64 }
     ensures { Puts out.old at (spaced op) result out.new }

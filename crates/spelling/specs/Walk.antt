@@ -12,6 +12,6 @@ pub record PrintAsks (stored nodes : List ℕ) (k depth at : ℕ) (t : Tree ℕ)
   pub inside : k < length nodes
   pub room : at + 400000 * size t < 2 ^ 63
 
--- the same where a two_sided_lem operator stands at k, its left operand at l
+-- the same where a two-sided operator stands at k, its left operand at l
 abbrev pub OperatorAsks : (stored nodes : List ℕ) (op l k depth at : ℕ) → Tree ℕ → Type 0
 OperatorAsks stored nodes op l k depth at t = (node_of (get_or nodes k 0) ≡ Two op l) × PrintAsks stored nodes k depth at t

@@ -52,7 +52,7 @@ pub fn print_node(
     }
 }
 
-// A two_sided_lem operator between its operands: the left one is asked its precedence, the right one more; parentheses when its own is below the asked.
+// A two-sided operator between its operands: the left one is asked its precedence, the right one more; parentheses when its own is below the asked.
 #[cycle(print_node_print_operator)]
 pub fn print_operator(
     nodes: &[u64],

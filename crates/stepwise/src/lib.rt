@@ -110,7 +110,7 @@ fn on_ints(op: u64, a: u64, b: u64) -> u64
     on_words(op, a, b)
 }
 
-// A node of any kind on two cells, if it is a two_sided_lem operator.
+// A node of any kind on two cells, if it is a two-sided operator.
 pub fn two(op: u64, a: u64, b: u64, stored: &[u8]) -> u64
     requires { WellFormed (length stored.now) a × WellFormed (length stored.now) b }
     ensures known { (result ≡ nothing → ⊥) → IsTwoSided op }

@@ -129,11 +129,11 @@ module _ (R : Rules) (v w : Value) where
   unfolding on_both decides two_sided
   or_right r e f = rw (e, f)
 
--- a kind from 32 to 46 is that of a two_sided_lem operator
+-- a kind from 32 to 46 is that of a two-sided operator
 pub two_sided_lem : (op n : ℕ) → op ≡ n → 32 ≤ n → n < 47 → IsTwoSided op
 two_sided_lem op n e l u = record { above = omega arith; below = omega arith; known = λ x. omega arith }
 
--- AND and OR, of kinds 48 and 49, are two_sided_lem operators, too
+-- AND and OR, of kinds 48 and 49, are two-sided operators, too
 pub two_sided_truth : (op n : ℕ) → op ≡ n → 48 ≤ n → n < 50 → IsTwoSided op
 two_sided_truth op n e l u = record { above = omega arith; below = omega arith; known = λ x. omega arith }
 

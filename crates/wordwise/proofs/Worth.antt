@@ -1,4 +1,4 @@
--- What a word that was worked out is worth: a value, in a well_formed cell that is no text. Assumes nothing.
+-- What a word that was worked out is worth: a value, in a well-formed cell that is no text. Assumes nothing.
 use mathlib.Core.Path.{◌≡◌, refl, sym, ap, ◌∙◌}
 use mathlib.Core.Bool.{Bool, true, false, cond}
 use mathlib.Core.List.{List}
@@ -21,7 +21,7 @@ use Rattle.conditions.specs.Ast.{decides, two_sided}
 use Rattle.conditions.proofs.Deciding.{holds_two_sided}
 use Rattle.wordwise.specs.Settled.{nothing, Settled, on_both}
 
--- an outcome is the value of a word, which is a well_formed cell and no text
+-- an outcome is the value of a word, which is a well-formed cell and no text
 pub record Worth (stored : List ℕ) (r : ℕ) (o : Outcome) : Type 0 where
   pub means : o ≡ value (value_of stored r)
   pub within : WellFormed (length stored) r

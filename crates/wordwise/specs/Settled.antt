@@ -14,7 +14,7 @@ nothing = 2 ^ 64 - 1
 pub record Settled (r : ℕ) (o : Outcome) : Type 0 where
   pub told : (r ≡ nothing → ⊥) → (top : ℕ) → gave r top ≡ placed top o
 
--- Ast::eval of a two_sided_lem operator both of whose operands have a value: the left one decides, or else both count
+-- Ast::eval of a two-sided operator both of whose operands have a value: the left one decides, or else both count
 unfoldable pub on_both : Rules → ℕ → Value → Value → Outcome
 on_both R op v w = cond (decides op v) (value (from_bool (to_bool v))) (two_sided R op v w)
 
@@ -27,7 +27,7 @@ pub record Ints (a b : ℕ) : Type 0 where
   pub first : kind_of a ≡ 1
   pub second : kind_of b ≡ 1
 
--- the kinds of two_sided_lem operators: 32 to 46, 48 and 49
+-- the kinds of two-sided operators: 32 to 46, 48 and 49
 pub record IsTwoSided (op : ℕ) : Type 0 where
   pub above : 32 ≤ op
   pub below : op < 50

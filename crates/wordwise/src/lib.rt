@@ -157,7 +157,7 @@ pub fn on_cells(op: u64, a: u64, b: u64, stored: &[u8]) -> u64
     NOTHING
 }
 
-// A node of any kind on two cells, if it is a two_sided_lem operator.
+// A node of any kind on two cells, if it is a two-sided operator.
 pub fn two(op: u64, a: u64, b: u64, stored: &[u8]) -> u64
     requires { WellFormed (length stored.now) a × WellFormed (length stored.now) b }
     ensures known { (result ≡ nothing → ⊥) → IsTwoSided op }

@@ -16,89 +16,89 @@ returns-in-Refused c = refused_is _ _ _ _ _ (before_stops c.args.condition.now c
 
 pub overflow_sub-n : goal.overflow_sub-n
 overflow_sub-n c =
-    let passed : (before_stop s.args.columns.now (length s.args.text.now) s.args.used (length s.args.out.now) ≡ never) = told_sound _ _ c.in_default.is c.check_before-before.ensures in
-    let tabled : (Tabled s.args.condition.now s.args.columns.now s.args.text.now s.args.used s.args.out.now) c.scan-scanned.new.nodes c.in-Table.n = record {
+    let passed : (before_stop c.args.columns.now (length c.args.text.now) c.args.used (length c.args.out.now) ≡ never) = told_sound _ _ c.in_default.is c.check_before-before.ensures in
+    let tabled : Tabled c.args.condition.now c.args.columns.now c.args.text.now c.args.used c.args.out.now c.scan-scanned.new.nodes c.in-Table.n = record {
       passed = passed;
-      table = subst ((ScanIs s.args.used s.args.condition.now nodes x (parsed Named s.args.used s.args.condition.now)) c.scan-scanned.new.nodes) c.in-Table.is c.scan-scanned.ensures;
+      table = subst (λ x. ScanIs c.args.used c.args.condition.now c.scan-scanned.new.nodes x (parsed Named c.args.used c.args.condition.now)) c.in-Table.is c.scan-scanned.ensures;
       long = c.scan-scanned.auto.nodes;
     } in
     some tabled
 
 pub slice_bounds-bind_node-end-in-Table : goal.slice_bounds-bind_node-end-in-Table
 slice_bounds-bind_node-end-in-Table c =
-    let passed : (before_stop s.args.columns.now (length s.args.text.now) s.args.used (length s.args.out.now) ≡ never) = told_sound _ _ c.in_default.is c.check_before-before.ensures in
-    let tabled : (Tabled s.args.condition.now s.args.columns.now s.args.text.now s.args.used s.args.out.now) c.scan-scanned.new.nodes c.in-Table.n = record {
+    let passed : (before_stop c.args.columns.now (length c.args.text.now) c.args.used (length c.args.out.now) ≡ never) = told_sound _ _ c.in_default.is c.check_before-before.ensures in
+    let tabled : Tabled c.args.condition.now c.args.columns.now c.args.text.now c.args.used c.args.out.now c.scan-scanned.new.nodes c.in-Table.n = record {
       passed = passed;
-      table = subst ((ScanIs s.args.used s.args.condition.now nodes x (parsed Named s.args.used s.args.condition.now)) c.scan-scanned.new.nodes) c.in-Table.is c.scan-scanned.ensures;
+      table = subst (λ x. ScanIs c.args.used c.args.condition.now c.scan-scanned.new.nodes x (parsed Named c.args.used c.args.condition.now)) c.in-Table.is c.scan-scanned.ensures;
       long = c.scan-scanned.auto.nodes;
     } in
     stored_length tabled
 
 pub bind_node-whole-requires : goal.bind_node-whole-requires
 bind_node-whole-requires c =
-    let passed : (before_stop s.args.columns.now (length s.args.text.now) s.args.used (length s.args.out.now) ≡ never) = told_sound _ _ c.in_default.is c.check_before-before.ensures in
-    let tabled : (Tabled s.args.condition.now s.args.columns.now s.args.text.now s.args.used s.args.out.now) c.scan-scanned.new.nodes c.in-Table.n = record {
+    let passed : (before_stop c.args.columns.now (length c.args.text.now) c.args.used (length c.args.out.now) ≡ never) = told_sound _ _ c.in_default.is c.check_before-before.ensures in
+    let tabled : Tabled c.args.condition.now c.args.columns.now c.args.text.now c.args.used c.args.out.now c.scan-scanned.new.nodes c.in-Table.n = record {
       passed = passed;
-      table = subst ((ScanIs s.args.used s.args.condition.now nodes x (parsed Named s.args.used s.args.condition.now)) c.scan-scanned.new.nodes) c.in-Table.is c.scan-scanned.ensures;
+      table = subst (λ x. ScanIs c.args.used c.args.condition.now c.scan-scanned.new.nodes x (parsed Named c.args.used c.args.condition.now)) c.in-Table.is c.scan-scanned.ensures;
       long = c.scan-scanned.auto.nodes;
     } in
     tree_asks tabled _ refl
 
 pub slice_bounds-space-end : goal.slice_bounds-space-end
 slice_bounds-space-end c =
-    let passed : (before_stop s.args.columns.now (length s.args.text.now) s.args.used (length s.args.out.now) ≡ never) = told_sound _ _ c.in_default.is c.check_before-before.ensures in
-    let tabled : (Tabled s.args.condition.now s.args.columns.now s.args.text.now s.args.used s.args.out.now) c.scan-scanned.new.nodes c.in-Table.n = record {
+    let passed : (before_stop c.args.columns.now (length c.args.text.now) c.args.used (length c.args.out.now) ≡ never) = told_sound _ _ c.in_default.is c.check_before-before.ensures in
+    let tabled : Tabled c.args.condition.now c.args.columns.now c.args.text.now c.args.used c.args.out.now c.scan-scanned.new.nodes c.in-Table.n = record {
       passed = passed;
-      table = subst ((ScanIs s.args.used s.args.condition.now nodes x (parsed Named s.args.used s.args.condition.now)) c.scan-scanned.new.nodes) c.in-Table.is c.scan-scanned.ensures;
+      table = subst (λ x. ScanIs c.args.used c.args.condition.now c.scan-scanned.new.nodes x (parsed Named c.args.used c.args.condition.now)) c.in-Table.is c.scan-scanned.ensures;
       long = c.scan-scanned.auto.nodes;
     } in
-    let bound : (Whole s.args.condition.now s.args.columns.now s.args.text.now s.args.used s.args.out.now) c.bind_node-whole.new.out c.in-Bound.end = bound_whole (tabled) _ refl _ _ c.bind_node-whole.ensures _ _ c.in-Bound.is c.bind_node-whole.auto.out in
+    let bound : Whole c.args.condition.now c.args.columns.now c.args.text.now c.args.used c.args.out.now c.bind_node-whole.new.out c.in-Bound.end = bound_whole tabled _ refl _ _ c.bind_node-whole.ensures _ _ c.in-Bound.is c.bind_node-whole.auto.out in
     bound.inside
 
 pub slice_bounds-write_bytes-end : goal.slice_bounds-write_bytes-end
 slice_bounds-write_bytes-end c =
-    let passed : (before_stop s.args.columns.now (length s.args.text.now) s.args.used (length s.args.out.now) ≡ never) = told_sound _ _ c.in_default.is c.check_before-before.ensures in
-    let tabled : (Tabled s.args.condition.now s.args.columns.now s.args.text.now s.args.used s.args.out.now) c.scan-scanned.new.nodes c.in-Table.n = record {
+    let passed : (before_stop c.args.columns.now (length c.args.text.now) c.args.used (length c.args.out.now) ≡ never) = told_sound _ _ c.in_default.is c.check_before-before.ensures in
+    let tabled : Tabled c.args.condition.now c.args.columns.now c.args.text.now c.args.used c.args.out.now c.scan-scanned.new.nodes c.in-Table.n = record {
       passed = passed;
-      table = subst ((ScanIs s.args.used s.args.condition.now nodes x (parsed Named s.args.used s.args.condition.now)) c.scan-scanned.new.nodes) c.in-Table.is c.scan-scanned.ensures;
+      table = subst (λ x. ScanIs c.args.used c.args.condition.now c.scan-scanned.new.nodes x (parsed Named c.args.used c.args.condition.now)) c.in-Table.is c.scan-scanned.ensures;
       long = c.scan-scanned.auto.nodes;
     } in
-    let bound : (Whole s.args.condition.now s.args.columns.now s.args.text.now s.args.used s.args.out.now) c.bind_node-whole.new.out c.in-Bound.end = bound_whole (tabled) _ refl _ _ c.bind_node-whole.ensures _ _ c.in-Bound.is c.bind_node-whole.auto.out in
+    let bound : Whole c.args.condition.now c.args.columns.now c.args.text.now c.args.used c.args.out.now c.bind_node-whole.new.out c.in-Bound.end = bound_whole tabled _ refl _ _ c.bind_node-whole.ensures _ _ c.in-Bound.is c.bind_node-whole.auto.out in
     end_is bound
 
 pub write_bytes-requires : goal.write_bytes-requires
 write_bytes-requires c =
-    let passed : (before_stop s.args.columns.now (length s.args.text.now) s.args.used (length s.args.out.now) ≡ never) = told_sound _ _ c.in_default.is c.check_before-before.ensures in
-    let tabled : (Tabled s.args.condition.now s.args.columns.now s.args.text.now s.args.used s.args.out.now) c.scan-scanned.new.nodes c.in-Table.n = record {
+    let passed : (before_stop c.args.columns.now (length c.args.text.now) c.args.used (length c.args.out.now) ≡ never) = told_sound _ _ c.in_default.is c.check_before-before.ensures in
+    let tabled : Tabled c.args.condition.now c.args.columns.now c.args.text.now c.args.used c.args.out.now c.scan-scanned.new.nodes c.in-Table.n = record {
       passed = passed;
-      table = subst ((ScanIs s.args.used s.args.condition.now nodes x (parsed Named s.args.used s.args.condition.now)) c.scan-scanned.new.nodes) c.in-Table.is c.scan-scanned.ensures;
+      table = subst (λ x. ScanIs c.args.used c.args.condition.now c.scan-scanned.new.nodes x (parsed Named c.args.used c.args.condition.now)) c.in-Table.is c.scan-scanned.ensures;
       long = c.scan-scanned.auto.nodes;
     } in
-    let bound : (Whole s.args.condition.now s.args.columns.now s.args.text.now s.args.used s.args.out.now) c.bind_node-whole.new.out c.in-Bound.end = bound_whole (tabled) _ refl _ _ c.bind_node-whole.ensures _ _ c.in-Bound.is c.bind_node-whole.auto.out in
+    let bound : Whole c.args.condition.now c.args.columns.now c.args.text.now c.args.used c.args.out.now c.bind_node-whole.new.out c.in-Bound.end = bound_whole tabled _ refl _ _ c.bind_node-whole.ensures _ _ c.in-Bound.is c.bind_node-whole.auto.out in
     end_fits bound
 
 pub returns-in-Denied : goal.returns-in-Denied
 returns-in-Denied c =
-    let passed : (before_stop s.args.columns.now (length s.args.text.now) s.args.used (length s.args.out.now) ≡ never) = told_sound _ _ c.in_default.is c.check_before-before.ensures in
+    let passed : (before_stop c.args.columns.now (length c.args.text.now) c.args.used (length c.args.out.now) ≡ never) = told_sound _ _ c.in_default.is c.check_before-before.ensures in
     refused_is _ _ _ _ _ (form_stops c.args.condition.now c.args.columns.now _ (length c.args.text.now) c.args.used (length c.args.out.now) passed c.scan-scanned.new.nodes _ c.scan-scanned.ensures c.in-Denied.r c.in-Denied.is)
 
 pub returns-in-Refused-whole : goal.returns-in-Refused-whole
 returns-in-Refused-whole c =
-    let passed : (before_stop s.args.columns.now (length s.args.text.now) s.args.used (length s.args.out.now) ≡ never) = told_sound _ _ c.in_default.is c.check_before-before.ensures in
-    let tabled : (Tabled s.args.condition.now s.args.columns.now s.args.text.now s.args.used s.args.out.now) c.scan-scanned.new.nodes c.in-Table.n = record {
+    let passed : (before_stop c.args.columns.now (length c.args.text.now) c.args.used (length c.args.out.now) ≡ never) = told_sound _ _ c.in_default.is c.check_before-before.ensures in
+    let tabled : Tabled c.args.condition.now c.args.columns.now c.args.text.now c.args.used c.args.out.now c.scan-scanned.new.nodes c.in-Table.n = record {
       passed = passed;
-      table = subst ((ScanIs s.args.used s.args.condition.now nodes x (parsed Named s.args.used s.args.condition.now)) c.scan-scanned.new.nodes) c.in-Table.is c.scan-scanned.ensures;
+      table = subst (λ x. ScanIs c.args.used c.args.condition.now c.scan-scanned.new.nodes x (parsed Named c.args.used c.args.condition.now)) c.in-Table.is c.scan-scanned.ensures;
       long = c.scan-scanned.auto.nodes;
     } in
     refused_is _ _ _ _ _ (names_stops tabled _ refl c.bind_node-whole.new.out _ c.bind_node-whole.ensures c.in-Refused-whole.r c.in-Refused-whole.is)
 
 pub returns-in-Bound : goal.returns-in-Bound
 returns-in-Bound c =
-    let passed : (before_stop s.args.columns.now (length s.args.text.now) s.args.used (length s.args.out.now) ≡ never) = told_sound _ _ c.in_default.is c.check_before-before.ensures in
-    let tabled : (Tabled s.args.condition.now s.args.columns.now s.args.text.now s.args.used s.args.out.now) c.scan-scanned.new.nodes c.in-Table.n = record {
+    let passed : (before_stop c.args.columns.now (length c.args.text.now) c.args.used (length c.args.out.now) ≡ never) = told_sound _ _ c.in_default.is c.check_before-before.ensures in
+    let tabled : Tabled c.args.condition.now c.args.columns.now c.args.text.now c.args.used c.args.out.now c.scan-scanned.new.nodes c.in-Table.n = record {
       passed = passed;
-      table = subst ((ScanIs s.args.used s.args.condition.now nodes x (parsed Named s.args.used s.args.condition.now)) c.scan-scanned.new.nodes) c.in-Table.is c.scan-scanned.ensures;
+      table = subst (λ x. ScanIs c.args.used c.args.condition.now c.scan-scanned.new.nodes x (parsed Named c.args.used c.args.condition.now)) c.in-Table.is c.scan-scanned.ensures;
       long = c.scan-scanned.auto.nodes;
     } in
-    let bound : (Whole s.args.condition.now s.args.columns.now s.args.text.now s.args.used s.args.out.now) c.bind_node-whole.new.out c.in-Bound.end = bound_whole (tabled) _ refl _ _ c.bind_node-whole.ensures _ _ c.in-Bound.is c.bind_node-whole.auto.out in
+    let bound : Whole c.args.condition.now c.args.columns.now c.args.text.now c.args.used c.args.out.now c.bind_node-whole.new.out c.in-Bound.end = bound_whole tabled _ refl _ _ c.bind_node-whole.ensures _ _ c.in-Bound.is c.bind_node-whole.auto.out in
     bind_written bound _ _ c.write_bytes.ensures

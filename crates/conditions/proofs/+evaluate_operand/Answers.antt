@@ -8,7 +8,7 @@ use Rattle.conditions.specs.Table.{node_of}
 use Rattle.conditions.proofs.NodeKind.{node_low}
 use Rattle.conditions.proofs.Descent.{in_table, deep, sound_one, sound_two}
 use Rattle.conditions.proofs.Walk.{leaf_sound, leaf_answers, one_asks, one_refused, one_answers, left_asks, left_refused, left_decided, right_asks, right_refused, join_asks, two_answers, one_lies, left_lies, two_lies}
-use Rattle.conditions.proofs.Lying.{lies_refused, lies_leaf}
+use Rattle.conditions.proofs.Lying.{among_refusals, lies_refused, lies_leaf}
 use borrow.Fn.PlainCycle.{is}
 use Rattle.conditions.proofs.evaluate.Reads as evaluate
 use Rattle.conditions.proofs.+evaluate_operand.Goals as goal
@@ -33,8 +33,8 @@ evaluate-operand-a-requires t c = (omega (arith, c.decreases, deep _ _ _ _ _ c.r
 
 pub evaluate-returns-in_default : goal.evaluate-returns-in_default
 evaluate-returns-in_default t c = record {
-    means = one_refused _ _ _ _ _ _ _ _ c.requires _ (sym c.node_of.ensures ∙ c.in-One.is) _ _ c.in_default.in_default-own.keys2 c.operand-a.ensures.means;
-    lies = lies_refused c.args.top (node_of (get_or c.args.nodes.now c.args.k 0)) c.args.row.now c.operand-a.result c.in_default.in_default-own.keys2;
+    means = one_refused _ _ _ _ _ _ _ _ c.requires _ (sym c.node_of.ensures ∙ c.in-One.is) _ _ (among_refusals c.operand-a.result c.in_default.not-Gave) c.operand-a.ensures.means;
+    lies = lies_refused c.args.top (node_of (get_or c.args.nodes.now c.args.k 0)) c.args.row.now c.operand-a.result (among_refusals c.operand-a.result c.in_default.not-Gave);
   }
 
 pub evaluate-unary-requires : goal.evaluate-unary-requires
@@ -51,8 +51,8 @@ evaluate-operand-a-requires-in-Two t c = (omega (arith, c.decreases, deep _ _ _ 
 
 pub evaluate-returns-in_default-a : goal.evaluate-returns-in_default-a
 evaluate-returns-in_default-a t c = record {
-    means = left_refused _ _ _ _ _ _ _ _ c.requires _ _ (sym c.node_of.ensures ∙ c.in-Two.is) _ _ c.in_default-a.in_default-a-own.keys2 c.operand-a-in-Two.ensures.means;
-    lies = lies_refused c.args.top (node_of (get_or c.args.nodes.now c.args.k 0)) c.args.row.now c.operand-a-in-Two.result c.in_default-a.in_default-a-own.keys2;
+    means = left_refused _ _ _ _ _ _ _ _ c.requires _ _ (sym c.node_of.ensures ∙ c.in-Two.is) _ _ (among_refusals c.operand-a-in-Two.result c.in_default-a.not-Gave) c.operand-a-in-Two.ensures.means;
+    lies = lies_refused c.args.top (node_of (get_or c.args.nodes.now c.args.k 0)) c.args.row.now c.operand-a-in-Two.result (among_refusals c.operand-a-in-Two.result c.in_default-a.not-Gave);
   }
 
 pub evaluate-returns-then-decided : goal.evaluate-returns-then-decided
@@ -69,8 +69,8 @@ evaluate-operand-b-requires t c = (omega (arith, c.decreases, deep _ _ _ _ _ c.r
 
 pub evaluate-returns-in_default-b : goal.evaluate-returns-in_default-b
 evaluate-returns-in_default-b t c = record {
-    means = right_refused _ _ _ _ _ _ _ _ c.requires _ _ (sym c.node_of.ensures ∙ c.in-Two.is) _ _ _ (rw c.in-Gave-a.is at c.operand-a-in-Two.ensures.means) c.operand-a-in-Two.auto.text _ c.decided.ensures c.if-decided.false _ _ c.operand-b.ensures.means c.in_default-b.in_default-b-own.keys2;
-    lies = lies_refused c.args.top (node_of (get_or c.args.nodes.now c.args.k 0)) c.args.row.now c.operand-b.result c.in_default-b.in_default-b-own.keys2;
+    means = right_refused _ _ _ _ _ _ _ _ c.requires _ _ (sym c.node_of.ensures ∙ c.in-Two.is) _ _ _ (rw c.in-Gave-a.is at c.operand-a-in-Two.ensures.means) c.operand-a-in-Two.auto.text _ c.decided.ensures c.if-decided.false _ _ c.operand-b.ensures.means (among_refusals c.operand-b.result c.in_default-b.not-Gave);
+    lies = lies_refused c.args.top (node_of (get_or c.args.nodes.now c.args.k 0)) c.args.row.now c.operand-b.result (among_refusals c.operand-b.result c.in_default-b.not-Gave);
   }
 
 pub evaluate-apply-requires : goal.evaluate-apply-requires

@@ -16,7 +16,7 @@ compare_column-order-requires c = (
 )
 
 pub returns-in_default : goal.returns-in_default
-returns-in_default c = sym (c.loop-i.invariant.1 ∙ leaves _ _ _ _ _ c.requires c.loop-i-test.true _ c.compare_column-order.ensures c.in_default.in_default-own.keys2)
+returns-in_default c = sym (c.loop-i.invariant.1 ∙ leaves _ _ _ _ _ c.requires c.loop-i-test.true _ c.compare_column-order.ensures c.in_default.not-Equal)
 
 pub loop-i-preserved : goal.loop-i-preserved
 loop-i-preserved c = (

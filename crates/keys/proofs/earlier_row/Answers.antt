@@ -7,4 +7,4 @@ pub returns-in-Greater : goal.returns-in-Greater
 returns-in-Greater c = rw (sym c.compare_keys-order.ensures ∙ c.in-Greater.is)
 
 pub returns-in_default : goal.returns-in_default
-returns-in_default c = rw (← c.compare_keys-order.ensures) (first_picked c.compare_keys-order.result _ c.args.second.now c.in_default.in_default-own.keys2)
+returns-in_default c = rw (← c.compare_keys-order.ensures) (first_picked c.compare_keys-order.result _ c.args.second.now c.in_default.not-Greater)

@@ -2,10 +2,10 @@
 use mathlib.Core.Path.{◌∙◌}
 use Prim.Native.Nat.{◌-◌, ◌*◌, ◌+◌, ◌≤◌}
 use native.Mathlib.Omega.{arith}
-use lib.ListN.{length, take}
+use lib.ListN.{length, take, set}
 use Rattle.operators.specs.Operator.{base}
 use Rattle.marking.specs.Marks.{test_of}
-use Rattle.marking.proofs.Marking.{Marking, row_inside, loop_start, loop_end, row_asks, loop_turn, loop_refused, loop_alone}
+use Rattle.marking.proofs.Marking.{Marking, MarkLoop, row_inside, loop_start, loop_end, row_asks, loop_turn, loop_refused, loop_alone}
 use Rattle.marking.proofs.mark_rows.Goals as goal
 
 pub loop-i-init : goal.loop-i-init
@@ -60,7 +60,9 @@ pub loop-i-preserved : goal.loop-i-preserved
 loop-i-preserved c = loop_turn _ _ _ _ _ _ _ _ c.loop-i.invariant c.loop-i-test.true _ c.mark_row-one.auto.text _ c.mark_row-one.ensures _ c.requires.1 _ c.in-Rows.is
 
 pub overflow_add-k : goal.overflow_add-k
-overflow_add-k c = omega (arith, ((loop-again c).marking _ c.requires.1).few, c.requires.1.table.few)
+overflow_add-k c =
+    let again : MarkLoop c.args.count c.args.used c.args.n c.args.width c.args.nodes.now c.args.rows.now c.args.text.now c.args.marks.now c.mark_row-one.new.text (set c.loop-i.marks c.loop-i.i c.in-Rows.mark) (c.loop-i.k + c.in-Rows.mark) (c.loop-i.i + 1) = loop_turn _ _ _ _ _ _ _ _ c.loop-i.invariant c.loop-i-test.true _ c.mark_row-one.auto.text _ c.mark_row-one.ensures _ c.requires.1 _ c.in-Rows.is in
+    omega (arith, (again.marking _ c.requires.1).few, c.requires.1.table.few)
 
 pub overflow_add-i : goal.overflow_add-i
 overflow_add-i c = omega (arith, c.requires.1.table.few)

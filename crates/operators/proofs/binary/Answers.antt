@@ -29,24 +29,24 @@ returns-then-op-lt38 c = applied_flag _ _ c.compare.result _ _
 
 pub returns-then-other-eq1 : goal.returns-then-other-eq1
 returns-then-other-eq1 c = applied_ints _ _ _ _ _ _ _
-    (ap₂ (binary_of c.args.rules c.args.op v w) (value_int (take c.args.top c.args.text.now) _ c.if-kind-eq1.true) (value_int (take c.args.top c.args.text.now) _ c.if-other-eq1.true) ∙ binary_ints _ _ c.if-op-lt38.false _ _) c.on_ints.ensures
+    (ap₂ (binary_of c.args.rules c.args.op) (value_int (take c.args.top c.args.text.now) _ c.if-kind-eq1.true) (value_int (take c.args.top c.args.text.now) _ c.if-other-eq1.true) ∙ binary_ints _ _ c.if-op-lt38.false _ _) c.on_ints.ensures
 
 pub returns-then-kind-eq1 : goal.returns-then-kind-eq1
 returns-then-kind-eq1 c = applied_null _ _ _
-    (ap (λ v. (binary_of c.args.rules c.args.op v w) v (value_of (take c.args.top c.args.text.now) c.args.b)) (value_int (take c.args.top c.args.text.now) _ c.if-kind-eq1.true) ∙ binary_int_other _ _ c.if-op-lt38.false _ _ (not_int _ _ c.if-other-eq1.false))
+    (ap (λ v. binary_of c.args.rules c.args.op v (value_of (take c.args.top c.args.text.now) c.args.b)) (value_int (take c.args.top c.args.text.now) _ c.if-kind-eq1.true) ∙ binary_int_other _ _ c.if-op-lt38.false _ _ (not_int _ _ c.if-other-eq1.false))
 
 pub returns-then-op-eq38 : goal.returns-then-op-eq38
 returns-then-op-eq38 c = subst (λ o. Applied c.args.text.now c.join.new.text c.args.top c.join.result o)
-    (sym (ap₂ (binary_of c.args.rules c.args.op v w) (value_str (take c.args.top c.args.text.now) _ c.if-kind-eq2.true) (value_str (take c.args.top c.args.text.now) _ c.if-other-eq2.true) ∙ binary_join _ _ c.if-op-lt38.false _ _ c.if-op-eq38.true))
+    (sym (ap₂ (binary_of c.args.rules c.args.op) (value_str (take c.args.top c.args.text.now) _ c.if-kind-eq2.true) (value_str (take c.args.top c.args.text.now) _ c.if-other-eq2.true) ∙ binary_join _ _ c.if-op-lt38.false _ _ c.if-op-eq38.true))
     c.join.ensures
 
 pub returns-then-other-eq2 : goal.returns-then-other-eq2
 returns-then-other-eq2 c = applied_null _ _ _
-    (ap₂ (binary_of c.args.rules c.args.op v w) (value_str (take c.args.top c.args.text.now) _ c.if-kind-eq2.true) (value_str (take c.args.top c.args.text.now) _ c.if-other-eq2.true) ∙ binary_texts _ _ c.if-op-lt38.false _ _ c.if-op-eq38.false)
+    (ap₂ (binary_of c.args.rules c.args.op) (value_str (take c.args.top c.args.text.now) _ c.if-kind-eq2.true) (value_str (take c.args.top c.args.text.now) _ c.if-other-eq2.true) ∙ binary_texts _ _ c.if-op-lt38.false _ _ c.if-op-eq38.false)
 
 pub returns-then-kind-eq2 : goal.returns-then-kind-eq2
 returns-then-kind-eq2 c = applied_null _ _ _
-    (ap (λ v. (binary_of c.args.rules c.args.op v w) v (value_of (take c.args.top c.args.text.now) c.args.b)) (value_str (take c.args.top c.args.text.now) _ c.if-kind-eq2.true) ∙ binary_text_other _ _ c.if-op-lt38.false _ _ (not_str _ _ c.if-other-eq2.false))
+    (ap (λ v. binary_of c.args.rules c.args.op v (value_of (take c.args.top c.args.text.now) c.args.b)) (value_str (take c.args.top c.args.text.now) _ c.if-kind-eq2.true) ∙ binary_text_other _ _ c.if-op-lt38.false _ _ (not_str _ _ c.if-other-eq2.false))
 
 pub returns : goal.returns
 returns c = applied_null _ _ _ (binary_other _ _ c.if-op-lt38.false _ _ (not_int (take c.args.top c.args.text.now) _ c.if-kind-eq1.false) (not_str (take c.args.top c.args.text.now) _ c.if-kind-eq2.false))

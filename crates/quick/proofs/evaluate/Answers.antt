@@ -10,4 +10,7 @@ pub word_of-word-requires : goal.word_of-word-requires
 word_of-word-requires c = stands _ _ _ _ _ _ _ _ c.requires
 
 pub returns : goal.returns
-returns c = found_answers _ _ _ _ _ _ _ _ c.requires _ (c.word_of-word.ensures c.if-word.false)
+returns c = record {
+    means = (found_answers _ _ _ _ _ _ _ _ c.requires _ (c.word_of-word.ensures c.if-word.false)).0;
+    lies = (found_answers _ _ _ _ _ _ _ _ c.requires _ (c.word_of-word.ensures c.if-word.false)).1;
+  }

@@ -28,7 +28,9 @@ pub returns-then-op-ge47 : goal.returns-then-op-ge47
 returns-then-op-ge47 c = λ n. absurd (n refl)
 
 pub offset_bounds-nodes-l : goal.offset_bounds-nodes-l
-offset_bounds-nodes-l c = scaled_Fits _ _ 8 (first-in (c)) c.well_formed.0.1
+offset_bounds-nodes-l c =
+    let first-in : get_or c.args.nodes.now c.args.k 0 % 2 ^ 56 < length c.args.nodes.now = omega (arith, in_table _ _ _ _ _ c.requires.sound, (sound_two _ _ _ _ _ c.requires.sound (node_two _ c.if-op-lt32.false)).left_below) in
+    scaled_Fits _ _ 8 first-in c.well_formed.0.1
 
 pub bounds-nodes-l : goal.bounds-nodes-l
 bounds-nodes-l c =

@@ -1,4 +1,4 @@
--- `replay_print::is_high` is safe: the text of a well_formed word lies inside the stored one. Assumes nothing.
+-- `replay_print::is_high` is safe: the text of a well-formed word lies inside the stored one. Assumes nothing.
 use Rattle.display.proofs.Shown.{text_inside}
 use Rattle.replay_print.proofs.is_high.Goals as goal
 

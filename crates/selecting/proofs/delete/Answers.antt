@@ -13,43 +13,43 @@ use Rattle.selecting.proofs.delete.Goals as goal
 
 pub returns-in-Refused : goal.returns-in-Refused
 returns-in-Refused c = record {
-    delete_is = delete_table (record { columns = s.args.columns.now; rows = s.args.rows.now; list = []; condition = s.args.condition.now; text = s.args.text.now; out = s.args.out.now; used = s.args.used }) _ (told_refused _ _ _ c.in-Refused.is c.check_table-table.ensures);
+    delete_is = delete_table (record { columns = c.args.columns.now; rows = c.args.rows.now; list = []; condition = c.args.condition.now; text = c.args.text.now; out = c.args.out.now; used = c.args.used }) _ (told_refused _ _ _ c.in-Refused.is c.check_table-table.ensures);
     text_unchanged = (refl, λ z. refl);
   }
 
 pub nonzero_div-n : goal.nonzero_div-n
 nonzero_div-n c =
-    let passed_table : TableStop true (record { columns = s.args.columns.now; rows = s.args.rows.now; list = []; condition = s.args.condition.now; text = s.args.text.now; out = s.args.out.now; used = s.args.used }) ≡ never = told_sound _ _ c.in_default.is c.check_table-table.ensures in
-    let passed : PassedBy true (record { columns = s.args.columns.now; rows = s.args.rows.now; list = []; condition = s.args.condition.now; text = s.args.text.now; out = s.args.out.now; used = s.args.used }) = table_passed _ _ _ _ _ _ (passed_table) in
+    let passed_table : TableStop true (record { columns = c.args.columns.now; rows = c.args.rows.now; list = []; condition = c.args.condition.now; text = c.args.text.now; out = c.args.out.now; used = c.args.used }) ≡ never = told_sound _ _ c.in_default.is c.check_table-table.ensures in
+    let passed : PassedBy true (record { columns = c.args.columns.now; rows = c.args.rows.now; list = []; condition = c.args.condition.now; text = c.args.text.now; out = c.args.out.now; used = c.args.used }) = table_passed _ _ _ _ _ _ (passed_table) in
     omega (arith, passed.table.some)
 
 pub mark_table-requires : goal.mark_table-requires
 mark_table-requires c =
-    let passed_table : TableStop true (record { columns = s.args.columns.now; rows = s.args.rows.now; list = []; condition = s.args.condition.now; text = s.args.text.now; out = s.args.out.now; used = s.args.used }) ≡ never = told_sound _ _ c.in_default.is c.check_table-table.ensures in
-    let passed : PassedBy true (record { columns = s.args.columns.now; rows = s.args.rows.now; list = []; condition = s.args.condition.now; text = s.args.text.now; out = s.args.out.now; used = s.args.used }) = table_passed _ _ _ _ _ _ (passed_table) in
+    let passed_table : TableStop true (record { columns = c.args.columns.now; rows = c.args.rows.now; list = []; condition = c.args.condition.now; text = c.args.text.now; out = c.args.out.now; used = c.args.used }) ≡ never = told_sound _ _ c.in_default.is c.check_table-table.ensures in
+    let passed : PassedBy true (record { columns = c.args.columns.now; rows = c.args.rows.now; list = []; condition = c.args.condition.now; text = c.args.text.now; out = c.args.out.now; used = c.args.used }) = table_passed _ _ _ _ _ _ (passed_table) in
     passed_asks _ _ passed (length-replicate {A = ℕ} 4096 0)
 
 pub overflow_sub-n : goal.overflow_sub-n
-overflow_sub-n c = delete_some (record { columns = s.args.columns.now; rows = s.args.rows.now; list = []; condition = s.args.condition.now; text = s.args.text.now; out = s.args.out.now; used = s.args.used }) _ _ _ _ c.mark_table.ensures _ c.in-Rows.is
+overflow_sub-n c = delete_some (record { columns = c.args.columns.now; rows = c.args.rows.now; list = []; condition = c.args.condition.now; text = c.args.text.now; out = c.args.out.now; used = c.args.used }) _ _ _ _ c.mark_table.ensures _ c.in-Rows.is
 
 pub write_kept-requires : goal.write_kept-requires
 write_kept-requires c =
-    let passed_table : TableStop true (record { columns = s.args.columns.now; rows = s.args.rows.now; list = []; condition = s.args.condition.now; text = s.args.text.now; out = s.args.out.now; used = s.args.used }) ≡ never = told_sound _ _ c.in_default.is c.check_table-table.ensures in
-    let passed : PassedBy true (record { columns = s.args.columns.now; rows = s.args.rows.now; list = []; condition = s.args.condition.now; text = s.args.text.now; out = s.args.out.now; used = s.args.used }) = table_passed _ _ _ _ _ _ (passed_table) in
-    delete_asks (record { columns = s.args.columns.now; rows = s.args.rows.now; list = []; condition = s.args.condition.now; text = s.args.text.now; out = s.args.out.now; used = s.args.used }) _ _ _ _ c.mark_table.ensures _ c.in-Rows.is passed (c.mark_table.auto.marks ∙ length-replicate {A = ℕ} 4096 0)
+    let passed_table : TableStop true (record { columns = c.args.columns.now; rows = c.args.rows.now; list = []; condition = c.args.condition.now; text = c.args.text.now; out = c.args.out.now; used = c.args.used }) ≡ never = told_sound _ _ c.in_default.is c.check_table-table.ensures in
+    let passed : PassedBy true (record { columns = c.args.columns.now; rows = c.args.rows.now; list = []; condition = c.args.condition.now; text = c.args.text.now; out = c.args.out.now; used = c.args.used }) = table_passed _ _ _ _ _ _ (passed_table) in
+    delete_asks (record { columns = c.args.columns.now; rows = c.args.rows.now; list = []; condition = c.args.condition.now; text = c.args.text.now; out = c.args.out.now; used = c.args.used }) _ _ _ _ c.mark_table.ensures _ c.in-Rows.is passed (c.mark_table.auto.marks ∙ length-replicate {A = ℕ} 4096 0)
 
 pub returns-in-Refused-mark_table : goal.returns-in-Refused-mark_table
 returns-in-Refused-mark_table c =
-    let passed_table : TableStop true (record { columns = s.args.columns.now; rows = s.args.rows.now; list = []; condition = s.args.condition.now; text = s.args.text.now; out = s.args.out.now; used = s.args.used }) ≡ never = told_sound _ _ c.in_default.is c.check_table-table.ensures in
+    let passed_table : TableStop true (record { columns = c.args.columns.now; rows = c.args.rows.now; list = []; condition = c.args.condition.now; text = c.args.text.now; out = c.args.out.now; used = c.args.used }) ≡ never = told_sound _ _ c.in_default.is c.check_table-table.ensures in
     record {
-    delete_is = delete_refused (record { columns = s.args.columns.now; rows = s.args.rows.now; list = []; condition = s.args.condition.now; text = s.args.text.now; out = s.args.out.now; used = s.args.used }) _ _ _ _ c.mark_table.ensures passed_table _ c.in-Refused-mark_table.is;
+    delete_is = delete_refused (record { columns = c.args.columns.now; rows = c.args.rows.now; list = []; condition = c.args.condition.now; text = c.args.text.now; out = c.args.out.now; used = c.args.used }) _ _ _ _ c.mark_table.ensures passed_table _ c.in-Refused-mark_table.is;
     text_unchanged = (c.mark_table.ensures.kept, c.mark_table.ensures.alone);
   }
 
 pub returns-in-Rows : goal.returns-in-Rows
 returns-in-Rows c =
-    let passed_table : TableStop true (record { columns = s.args.columns.now; rows = s.args.rows.now; list = []; condition = s.args.condition.now; text = s.args.text.now; out = s.args.out.now; used = s.args.used }) ≡ never = told_sound _ _ c.in_default.is c.check_table-table.ensures in
+    let passed_table : TableStop true (record { columns = c.args.columns.now; rows = c.args.rows.now; list = []; condition = c.args.condition.now; text = c.args.text.now; out = c.args.out.now; used = c.args.used }) ≡ never = told_sound _ _ c.in_default.is c.check_table-table.ensures in
     record {
-    delete_is = delete_written (record { columns = s.args.columns.now; rows = s.args.rows.now; list = []; condition = s.args.condition.now; text = s.args.text.now; out = s.args.out.now; used = s.args.used }) _ _ _ _ c.mark_table.ensures _ c.in-Rows.is passed_table _ _ c.write_kept.ensures;
+    delete_is = delete_written (record { columns = c.args.columns.now; rows = c.args.rows.now; list = []; condition = c.args.condition.now; text = c.args.text.now; out = c.args.out.now; used = c.args.used }) _ _ _ _ c.mark_table.ensures _ c.in-Rows.is passed_table _ _ c.write_kept.ensures;
     text_unchanged = (c.mark_table.ensures.kept, c.mark_table.ensures.alone);
   }

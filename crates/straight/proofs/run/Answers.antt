@@ -6,13 +6,7 @@ use Rattle.nodes.specs.Kind.{body_of}
 use Rattle.straight.specs.Straight.{LeafRead}
 use Rattle.straight.proofs.Running.{Running, run_start, run_leaf, left_fine, right_fine, run_two, run_end}
 use native.Mathlib.Omega.{arith}
-use Rattle.straight.proofs.run.Tie as tie
 use Rattle.straight.proofs.run.Goals as goal
-
--- the leaf that was read
-read : (c : tie.After-body-of invariant-loop decreases-loop)
-    → LeafRead (length c.before.before.before.before.before.before.before.before.before.before.before.before.args.stored.now) c.before.before.before.before.before.before.before.before.before.before.before.before.args.b.now c.before.before.before.before.before.before.before.before.before.before.before.before.args.row.now c.before.before.before.before.before.before.before.before.loop.at c.before.before.before.before.before.wide.result c.before.before.leaf.result
-read c = c.before.before.leaf.ensures c.before.if3.false
 
 pub loop-at-init : goal.loop-at-init
 loop-at-init c = run_start _ _ _ _ _ refl
@@ -36,14 +30,17 @@ pub overflow_add-n : goal.overflow_add-n
 overflow_add-n c = omega (arith, c.loop-at.invariant.few)
 
 pub overflow_add-at-then-k-lt16 : goal.overflow_add-at-then-k-lt16
-overflow_add-at-then-k-lt16 c = let q : c.body_of.result ≡ body_of c.wide-k.result = c.body_of.ensures in omega (arith, (read c).inside)
+overflow_add-at-then-k-lt16 c = let q : c.body_of.result ≡ body_of c.wide-k.result = c.body_of.ensures in
+    -- the leaf that was read
+    let read : LeafRead (length c.args.stored.now) c.args.b.now c.args.row.now c.loop-at.at c.wide-k.result c.leaf-cell.result = c.leaf-cell.ensures c.if-cell.false in
+    omega (arith, read.inside)
 
 pub loop-at-smaller-then-k-lt16 : goal.loop-at-smaller-then-k-lt16
 loop-at-smaller-then-k-lt16 c = omega (arith, c.loop-at-test.true)
 
 pub loop-at-preserved-then-k-lt16 : goal.loop-at-preserved-then-k-lt16
 loop-at-preserved-then-k-lt16 c = subst (λ x. Running c.args.b.now c.args.row.now c.args.stored.now (set c.loop-at.stack c.loop-at.n c.loop-at.top) c.leaf-cell.result (c.loop-at.n + 1) c.loop-at.done (c.loop-at.at + 1 + x)) (sym c.body_of.ensures)
-    (run_leaf _ _ _ _ _ _ _ _ c.loop-at.invariant c.loop-at-test.true c.wide-k.result c.wide-k.ensures.0 (λ i. (c.type_inv.b i).fits) c.requires c.if-k-lt16.true c.if-n-eq16.false _ (read c))
+    (run_leaf _ _ _ _ _ _ _ _ c.loop-at.invariant c.loop-at-test.true c.wide-k.result c.wide-k.ensures.0 (λ i. (c.type_inv.b i).fits) c.requires c.if-k-lt16.true c.if-n-eq16.false _ (c.leaf-cell.ensures c.if-cell.false))
 
 pub returns-then-n-lt2 : goal.returns-then-n-lt2
 returns-then-n-lt2 c = λ n. absurd (n refl)

@@ -13,60 +13,60 @@ use Rattle.updating.proofs.update.Goals as goal
 
 pub returns-in-Refused : goal.returns-in-Refused
 returns-in-Refused c = record {
-    update_is = update_table (record { columns = s.args.columns.now; rows = s.args.rows.now; list = s.args.sets.now; condition = s.args.condition.now; text = s.args.text.now; out = s.args.out.now; used = s.args.used }) _ (ap (λ x. TableStop x (record { columns = s.args.columns.now; rows = s.args.rows.now; list = s.args.sets.now; condition = s.args.condition.now; text = s.args.text.now; out = s.args.out.now; used = s.args.used })) (sym c.are_sets.ensures) ∙ told_refused _ _ _ c.in-Refused.is c.check_table-table.ensures);
+    update_is = update_table (record { columns = c.args.columns.now; rows = c.args.rows.now; list = c.args.sets.now; condition = c.args.condition.now; text = c.args.text.now; out = c.args.out.now; used = c.args.used }) _ (ap (λ x. TableStop x (record { columns = c.args.columns.now; rows = c.args.rows.now; list = c.args.sets.now; condition = c.args.condition.now; text = c.args.text.now; out = c.args.out.now; used = c.args.used })) (sym c.are_sets.ensures) ∙ told_refused _ _ _ c.in-Refused.is c.check_table-table.ensures);
     text_unchanged = (refl, λ z. refl);
   }
 
 pub check_sets-wrong-requires : goal.check_sets-wrong-requires
 check_sets-wrong-requires c =
-    let passed_table : TableFor (record { columns = s.args.columns.now; rows = s.args.rows.now; list = s.args.sets.now; condition = s.args.condition.now; text = s.args.text.now; out = s.args.out.now; used = s.args.used }) ≡ never = ap (λ x. TableStop x (record { columns = s.args.columns.now; rows = s.args.rows.now; list = s.args.sets.now; condition = s.args.condition.now; text = s.args.text.now; out = s.args.out.now; used = s.args.used })) (sym c.are_sets.ensures) ∙ told_sound _ _ c.in_default.is c.check_table-table.ensures in
-    let passed : PassedBy (are_sets c.args.sets.now) (record { columns = s.args.columns.now; rows = s.args.rows.now; list = s.args.sets.now; condition = s.args.condition.now; text = s.args.text.now; out = s.args.out.now; used = s.args.used }) = table_passed _ _ _ _ _ _ (passed_table) in
+    let passed_table : TableFor (record { columns = c.args.columns.now; rows = c.args.rows.now; list = c.args.sets.now; condition = c.args.condition.now; text = c.args.text.now; out = c.args.out.now; used = c.args.used }) ≡ never = ap (λ x. TableStop x (record { columns = c.args.columns.now; rows = c.args.rows.now; list = c.args.sets.now; condition = c.args.condition.now; text = c.args.text.now; out = c.args.out.now; used = c.args.used })) (sym c.are_sets.ensures) ∙ told_sound _ _ c.in_default.is c.check_table-table.ensures in
+    let passed : PassedBy (are_sets c.args.sets.now) (record { columns = c.args.columns.now; rows = c.args.rows.now; list = c.args.sets.now; condition = c.args.condition.now; text = c.args.text.now; out = c.args.out.now; used = c.args.used }) = table_passed _ _ _ _ _ _ (passed_table) in
     passed.table.whole
 
 pub returns-in-Refused-wrong : goal.returns-in-Refused-wrong
 returns-in-Refused-wrong c =
-    let passed_table : TableFor (record { columns = s.args.columns.now; rows = s.args.rows.now; list = s.args.sets.now; condition = s.args.condition.now; text = s.args.text.now; out = s.args.out.now; used = s.args.used }) ≡ never = ap (λ x. TableStop x (record { columns = s.args.columns.now; rows = s.args.rows.now; list = s.args.sets.now; condition = s.args.condition.now; text = s.args.text.now; out = s.args.out.now; used = s.args.used })) (sym c.are_sets.ensures) ∙ told_sound _ _ c.in_default.is c.check_table-table.ensures in
-    let passed : PassedBy (are_sets c.args.sets.now) (record { columns = s.args.columns.now; rows = s.args.rows.now; list = s.args.sets.now; condition = s.args.condition.now; text = s.args.text.now; out = s.args.out.now; used = s.args.used }) = table_passed _ _ _ _ _ _ (passed_table) in
+    let passed_table : TableFor (record { columns = c.args.columns.now; rows = c.args.rows.now; list = c.args.sets.now; condition = c.args.condition.now; text = c.args.text.now; out = c.args.out.now; used = c.args.used }) ≡ never = ap (λ x. TableStop x (record { columns = c.args.columns.now; rows = c.args.rows.now; list = c.args.sets.now; condition = c.args.condition.now; text = c.args.text.now; out = c.args.out.now; used = c.args.used })) (sym c.are_sets.ensures) ∙ told_sound _ _ c.in_default.is c.check_table-table.ensures in
+    let passed : PassedBy (are_sets c.args.sets.now) (record { columns = c.args.columns.now; rows = c.args.rows.now; list = c.args.sets.now; condition = c.args.condition.now; text = c.args.text.now; out = c.args.out.now; used = c.args.used }) = table_passed _ _ _ _ _ _ (passed_table) in
     record {
-    update_is = update_sets (record { columns = s.args.columns.now; rows = s.args.rows.now; list = s.args.sets.now; condition = s.args.condition.now; text = s.args.text.now; out = s.args.out.now; used = s.args.used }) passed_table _ (told_refused _ _ _ c.in-Refused-wrong.is (c.check_sets-wrong.ensures _ (stored_length (record { columns = s.args.columns.now; rows = s.args.rows.now; list = s.args.sets.now; condition = s.args.condition.now; text = s.args.text.now; out = s.args.out.now; used = s.args.used }) passed)));
+    update_is = update_sets (record { columns = c.args.columns.now; rows = c.args.rows.now; list = c.args.sets.now; condition = c.args.condition.now; text = c.args.text.now; out = c.args.out.now; used = c.args.used }) passed_table _ (told_refused _ _ _ c.in-Refused-wrong.is (c.check_sets-wrong.ensures _ (stored_length (record { columns = c.args.columns.now; rows = c.args.rows.now; list = c.args.sets.now; condition = c.args.condition.now; text = c.args.text.now; out = c.args.out.now; used = c.args.used }) passed)));
     text_unchanged = (refl, λ z. refl);
   }
 
 pub nonzero_div-n : goal.nonzero_div-n
 nonzero_div-n c =
-    let passed_table : TableFor (record { columns = s.args.columns.now; rows = s.args.rows.now; list = s.args.sets.now; condition = s.args.condition.now; text = s.args.text.now; out = s.args.out.now; used = s.args.used }) ≡ never = ap (λ x. TableStop x (record { columns = s.args.columns.now; rows = s.args.rows.now; list = s.args.sets.now; condition = s.args.condition.now; text = s.args.text.now; out = s.args.out.now; used = s.args.used })) (sym c.are_sets.ensures) ∙ told_sound _ _ c.in_default.is c.check_table-table.ensures in
-    let passed : PassedBy (are_sets c.args.sets.now) (record { columns = s.args.columns.now; rows = s.args.rows.now; list = s.args.sets.now; condition = s.args.condition.now; text = s.args.text.now; out = s.args.out.now; used = s.args.used }) = table_passed _ _ _ _ _ _ (passed_table) in
+    let passed_table : TableFor (record { columns = c.args.columns.now; rows = c.args.rows.now; list = c.args.sets.now; condition = c.args.condition.now; text = c.args.text.now; out = c.args.out.now; used = c.args.used }) ≡ never = ap (λ x. TableStop x (record { columns = c.args.columns.now; rows = c.args.rows.now; list = c.args.sets.now; condition = c.args.condition.now; text = c.args.text.now; out = c.args.out.now; used = c.args.used })) (sym c.are_sets.ensures) ∙ told_sound _ _ c.in_default.is c.check_table-table.ensures in
+    let passed : PassedBy (are_sets c.args.sets.now) (record { columns = c.args.columns.now; rows = c.args.rows.now; list = c.args.sets.now; condition = c.args.condition.now; text = c.args.text.now; out = c.args.out.now; used = c.args.used }) = table_passed _ _ _ _ _ _ (passed_table) in
     omega (arith, passed.table.some)
 
 pub mark_table-requires : goal.mark_table-requires
 mark_table-requires c =
-    let passed_table : TableFor (record { columns = s.args.columns.now; rows = s.args.rows.now; list = s.args.sets.now; condition = s.args.condition.now; text = s.args.text.now; out = s.args.out.now; used = s.args.used }) ≡ never = ap (λ x. TableStop x (record { columns = s.args.columns.now; rows = s.args.rows.now; list = s.args.sets.now; condition = s.args.condition.now; text = s.args.text.now; out = s.args.out.now; used = s.args.used })) (sym c.are_sets.ensures) ∙ told_sound _ _ c.in_default.is c.check_table-table.ensures in
-    let passed : PassedBy (are_sets c.args.sets.now) (record { columns = s.args.columns.now; rows = s.args.rows.now; list = s.args.sets.now; condition = s.args.condition.now; text = s.args.text.now; out = s.args.out.now; used = s.args.used }) = table_passed _ _ _ _ _ _ (passed_table) in
+    let passed_table : TableFor (record { columns = c.args.columns.now; rows = c.args.rows.now; list = c.args.sets.now; condition = c.args.condition.now; text = c.args.text.now; out = c.args.out.now; used = c.args.used }) ≡ never = ap (λ x. TableStop x (record { columns = c.args.columns.now; rows = c.args.rows.now; list = c.args.sets.now; condition = c.args.condition.now; text = c.args.text.now; out = c.args.out.now; used = c.args.used })) (sym c.are_sets.ensures) ∙ told_sound _ _ c.in_default.is c.check_table-table.ensures in
+    let passed : PassedBy (are_sets c.args.sets.now) (record { columns = c.args.columns.now; rows = c.args.rows.now; list = c.args.sets.now; condition = c.args.condition.now; text = c.args.text.now; out = c.args.out.now; used = c.args.used }) = table_passed _ _ _ _ _ _ (passed_table) in
     passed_asks _ _ passed (length-replicate {A = ℕ} 4096 0)
 
 pub write_all-requires : goal.write_all-requires
 write_all-requires c =
-    let passed_table : TableFor (record { columns = s.args.columns.now; rows = s.args.rows.now; list = s.args.sets.now; condition = s.args.condition.now; text = s.args.text.now; out = s.args.out.now; used = s.args.used }) ≡ never = ap (λ x. TableStop x (record { columns = s.args.columns.now; rows = s.args.rows.now; list = s.args.sets.now; condition = s.args.condition.now; text = s.args.text.now; out = s.args.out.now; used = s.args.used })) (sym c.are_sets.ensures) ∙ told_sound _ _ c.in_default.is c.check_table-table.ensures in
-    let passed : PassedBy (are_sets c.args.sets.now) (record { columns = s.args.columns.now; rows = s.args.rows.now; list = s.args.sets.now; condition = s.args.condition.now; text = s.args.text.now; out = s.args.out.now; used = s.args.used }) = table_passed _ _ _ _ _ _ (passed_table) in
-    let passed_sets : SetsFor (record { columns = s.args.columns.now; rows = s.args.rows.now; list = s.args.sets.now; condition = s.args.condition.now; text = s.args.text.now; out = s.args.out.now; used = s.args.used }) ≡ never = told_sound _ _ c.in_default-wrong.is (c.check_sets-wrong.ensures _ (stored_length (record { columns = s.args.columns.now; rows = s.args.rows.now; list = s.args.sets.now; condition = s.args.condition.now; text = s.args.text.now; out = s.args.out.now; used = s.args.used }) (passed))) in
-    update_asks (record { columns = s.args.columns.now; rows = s.args.rows.now; list = s.args.sets.now; condition = s.args.condition.now; text = s.args.text.now; out = s.args.out.now; used = s.args.used }) passed passed_sets _ (c.mark_table.auto.marks ∙ length-replicate {A = ℕ} 4096 0)
+    let passed_table : TableFor (record { columns = c.args.columns.now; rows = c.args.rows.now; list = c.args.sets.now; condition = c.args.condition.now; text = c.args.text.now; out = c.args.out.now; used = c.args.used }) ≡ never = ap (λ x. TableStop x (record { columns = c.args.columns.now; rows = c.args.rows.now; list = c.args.sets.now; condition = c.args.condition.now; text = c.args.text.now; out = c.args.out.now; used = c.args.used })) (sym c.are_sets.ensures) ∙ told_sound _ _ c.in_default.is c.check_table-table.ensures in
+    let passed : PassedBy (are_sets c.args.sets.now) (record { columns = c.args.columns.now; rows = c.args.rows.now; list = c.args.sets.now; condition = c.args.condition.now; text = c.args.text.now; out = c.args.out.now; used = c.args.used }) = table_passed _ _ _ _ _ _ (passed_table) in
+    let passed_sets : SetsFor (record { columns = c.args.columns.now; rows = c.args.rows.now; list = c.args.sets.now; condition = c.args.condition.now; text = c.args.text.now; out = c.args.out.now; used = c.args.used }) ≡ never = told_sound _ _ c.in_default-wrong.is (c.check_sets-wrong.ensures _ (stored_length (record { columns = c.args.columns.now; rows = c.args.rows.now; list = c.args.sets.now; condition = c.args.condition.now; text = c.args.text.now; out = c.args.out.now; used = c.args.used }) (passed))) in
+    update_asks (record { columns = c.args.columns.now; rows = c.args.rows.now; list = c.args.sets.now; condition = c.args.condition.now; text = c.args.text.now; out = c.args.out.now; used = c.args.used }) passed passed_sets _ (c.mark_table.auto.marks ∙ length-replicate {A = ℕ} 4096 0)
 
 pub returns-in-Refused-mark_table : goal.returns-in-Refused-mark_table
 returns-in-Refused-mark_table c =
-    let passed_table : TableFor (record { columns = s.args.columns.now; rows = s.args.rows.now; list = s.args.sets.now; condition = s.args.condition.now; text = s.args.text.now; out = s.args.out.now; used = s.args.used }) ≡ never = ap (λ x. TableStop x (record { columns = s.args.columns.now; rows = s.args.rows.now; list = s.args.sets.now; condition = s.args.condition.now; text = s.args.text.now; out = s.args.out.now; used = s.args.used })) (sym c.are_sets.ensures) ∙ told_sound _ _ c.in_default.is c.check_table-table.ensures in
-    let passed : PassedBy (are_sets c.args.sets.now) (record { columns = s.args.columns.now; rows = s.args.rows.now; list = s.args.sets.now; condition = s.args.condition.now; text = s.args.text.now; out = s.args.out.now; used = s.args.used }) = table_passed _ _ _ _ _ _ (passed_table) in
-    let passed_sets : SetsFor (record { columns = s.args.columns.now; rows = s.args.rows.now; list = s.args.sets.now; condition = s.args.condition.now; text = s.args.text.now; out = s.args.out.now; used = s.args.used }) ≡ never = told_sound _ _ c.in_default-wrong.is (c.check_sets-wrong.ensures _ (stored_length (record { columns = s.args.columns.now; rows = s.args.rows.now; list = s.args.sets.now; condition = s.args.condition.now; text = s.args.text.now; out = s.args.out.now; used = s.args.used }) (passed))) in
+    let passed_table : TableFor (record { columns = c.args.columns.now; rows = c.args.rows.now; list = c.args.sets.now; condition = c.args.condition.now; text = c.args.text.now; out = c.args.out.now; used = c.args.used }) ≡ never = ap (λ x. TableStop x (record { columns = c.args.columns.now; rows = c.args.rows.now; list = c.args.sets.now; condition = c.args.condition.now; text = c.args.text.now; out = c.args.out.now; used = c.args.used })) (sym c.are_sets.ensures) ∙ told_sound _ _ c.in_default.is c.check_table-table.ensures in
+    let passed : PassedBy (are_sets c.args.sets.now) (record { columns = c.args.columns.now; rows = c.args.rows.now; list = c.args.sets.now; condition = c.args.condition.now; text = c.args.text.now; out = c.args.out.now; used = c.args.used }) = table_passed _ _ _ _ _ _ (passed_table) in
+    let passed_sets : SetsFor (record { columns = c.args.columns.now; rows = c.args.rows.now; list = c.args.sets.now; condition = c.args.condition.now; text = c.args.text.now; out = c.args.out.now; used = c.args.used }) ≡ never = told_sound _ _ c.in_default-wrong.is (c.check_sets-wrong.ensures _ (stored_length (record { columns = c.args.columns.now; rows = c.args.rows.now; list = c.args.sets.now; condition = c.args.condition.now; text = c.args.text.now; out = c.args.out.now; used = c.args.used }) (passed))) in
     record {
-    update_is = update_refused (record { columns = s.args.columns.now; rows = s.args.rows.now; list = s.args.sets.now; condition = s.args.condition.now; text = s.args.text.now; out = s.args.out.now; used = s.args.used }) passed_table passed_sets _ _ _ _ c.mark_table.ensures _ c.in-Refused-mark_table.is;
+    update_is = update_refused (record { columns = c.args.columns.now; rows = c.args.rows.now; list = c.args.sets.now; condition = c.args.condition.now; text = c.args.text.now; out = c.args.out.now; used = c.args.used }) passed_table passed_sets _ _ _ _ c.mark_table.ensures _ c.in-Refused-mark_table.is;
     text_unchanged = (c.mark_table.ensures.kept, c.mark_table.ensures.alone);
   }
 
 pub returns-in-Rows : goal.returns-in-Rows
 returns-in-Rows c =
-    let passed_table : TableFor (record { columns = s.args.columns.now; rows = s.args.rows.now; list = s.args.sets.now; condition = s.args.condition.now; text = s.args.text.now; out = s.args.out.now; used = s.args.used }) ≡ never = ap (λ x. TableStop x (record { columns = s.args.columns.now; rows = s.args.rows.now; list = s.args.sets.now; condition = s.args.condition.now; text = s.args.text.now; out = s.args.out.now; used = s.args.used })) (sym c.are_sets.ensures) ∙ told_sound _ _ c.in_default.is c.check_table-table.ensures in
-    let passed : PassedBy (are_sets c.args.sets.now) (record { columns = s.args.columns.now; rows = s.args.rows.now; list = s.args.sets.now; condition = s.args.condition.now; text = s.args.text.now; out = s.args.out.now; used = s.args.used }) = table_passed _ _ _ _ _ _ (passed_table) in
-    let passed_sets : SetsFor (record { columns = s.args.columns.now; rows = s.args.rows.now; list = s.args.sets.now; condition = s.args.condition.now; text = s.args.text.now; out = s.args.out.now; used = s.args.used }) ≡ never = told_sound _ _ c.in_default-wrong.is (c.check_sets-wrong.ensures _ (stored_length (record { columns = s.args.columns.now; rows = s.args.rows.now; list = s.args.sets.now; condition = s.args.condition.now; text = s.args.text.now; out = s.args.out.now; used = s.args.used }) (passed))) in
+    let passed_table : TableFor (record { columns = c.args.columns.now; rows = c.args.rows.now; list = c.args.sets.now; condition = c.args.condition.now; text = c.args.text.now; out = c.args.out.now; used = c.args.used }) ≡ never = ap (λ x. TableStop x (record { columns = c.args.columns.now; rows = c.args.rows.now; list = c.args.sets.now; condition = c.args.condition.now; text = c.args.text.now; out = c.args.out.now; used = c.args.used })) (sym c.are_sets.ensures) ∙ told_sound _ _ c.in_default.is c.check_table-table.ensures in
+    let passed : PassedBy (are_sets c.args.sets.now) (record { columns = c.args.columns.now; rows = c.args.rows.now; list = c.args.sets.now; condition = c.args.condition.now; text = c.args.text.now; out = c.args.out.now; used = c.args.used }) = table_passed _ _ _ _ _ _ (passed_table) in
+    let passed_sets : SetsFor (record { columns = c.args.columns.now; rows = c.args.rows.now; list = c.args.sets.now; condition = c.args.condition.now; text = c.args.text.now; out = c.args.out.now; used = c.args.used }) ≡ never = told_sound _ _ c.in_default-wrong.is (c.check_sets-wrong.ensures _ (stored_length (record { columns = c.args.columns.now; rows = c.args.rows.now; list = c.args.sets.now; condition = c.args.condition.now; text = c.args.text.now; out = c.args.out.now; used = c.args.used }) (passed))) in
     record {
-    update_is = update_written (record { columns = s.args.columns.now; rows = s.args.rows.now; list = s.args.sets.now; condition = s.args.condition.now; text = s.args.text.now; out = s.args.out.now; used = s.args.used }) passed_table passed_sets _ _ _ _ c.mark_table.ensures _ c.in-Rows.is _ _ c.write_all.ensures;
+    update_is = update_written (record { columns = c.args.columns.now; rows = c.args.rows.now; list = c.args.sets.now; condition = c.args.condition.now; text = c.args.text.now; out = c.args.out.now; used = c.args.used }) passed_table passed_sets _ _ _ _ c.mark_table.ensures _ c.in-Rows.is _ _ c.write_all.ensures;
     text_unchanged = (c.mark_table.ensures.kept, c.mark_table.ensures.alone);
   }
