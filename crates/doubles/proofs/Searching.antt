@@ -82,11 +82,11 @@ module _ (columns stored rows row : List ℕ) where
       here = rw (cell_at rows (column_count columns) i column l) f
 
       -- a column that differs tells that the row hasn't the key
-      differs : OneOf (0 ∷ 2 ∷ []) (tag_of the_type o) → HasKey i → ⊥
-      differs k q = not_equal o k (sym (leaves columns stored _ row column comparable (rw full l) o here k) ∙ sym e ∙ q)
+      differs : (o ≡ Equal → ⊥) → HasKey i → ⊥
+      differs k q = k (sym (leaves columns stored _ row column comparable (rw full l) o here k) ∙ sym e ∙ q)
 
       -- so it is passed by
-      pub passed : OneOf (0 ∷ 2 ∷ []) (tag_of the_type o) → ((k : ℕ) → k < i → HasKey k → ⊥) → (k : ℕ) → k < i + 1 → HasKey k → ⊥
+      pub passed : (o ≡ Equal → ⊥) → ((k : ℕ) → k < i → HasKey k → ⊥) → (k : ℕ) → k < i + 1 → HasKey k → ⊥
       passed k none = below_more (λ m. HasKey m → ⊥) i none (differs k)
 
       -- one that doesn't leaves the later ones

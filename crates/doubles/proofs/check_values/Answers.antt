@@ -1,6 +1,7 @@
 -- `doubles::check_values` meets its contract. The loop's invariant: what stops the cells is what stops those that are left.
 -- Assumes nothing.
-use mathlib.Core.Path.{refl, sym, ◌∙◌}
+use mathlib.Core.Path.{refl, sym, ap, ◌∙◌}
+use mathlib.Core.Bool.{not}
 use Prim.Native.Nat.{◌+◌, ◌-◌, ◌*◌, ◌%◌, ◌<◌}
 use native.Mathlib.Omega.{arith}
 use lib.ListN.{length}
@@ -38,12 +39,12 @@ bounds-columns-i c =
 pub returns-then-not-is_valid_value : goal.returns-then-not-is_valid_value
 returns-then-not-is_valid_value c =
     let inside : c.loop-i.i < length c.args.rows.now = omega (arith, c.loop-i-test.true) in
-    sym (c.loop-i.invariant.1 ∙ values_stopped _ _ _ _ inside c.requires.2 _ c.from_word.ensures _ c.is_valid_value.ensures c.if-not-is_valid_value.true)
+    sym (c.loop-i.invariant.1 ∙ values_stopped _ _ _ _ inside c.requires.2 _ c.from_word.ensures _ c.is_valid_value.ensures (ap not c.if-not-is_valid_value.true))
 
 pub loop-i-preserved : goal.loop-i-preserved
 loop-i-preserved c =
     let inside : c.loop-i.i < length c.args.rows.now = omega (arith, c.loop-i-test.true) in
-    (search rules, c.loop-i.invariant.1 ∙ values_on _ _ _ _ inside c.requires.2 _ c.from_word.ensures _ c.is_valid_value.ensures c.if-not-is_valid_value.false)
+    (search rules, c.loop-i.invariant.1 ∙ values_on _ _ _ _ inside c.requires.2 _ c.from_word.ensures _ c.is_valid_value.ensures (ap not c.if-not-is_valid_value.false))
 
 pub returns : goal.returns
 returns c = sym (c.loop-i.invariant.1 ∙ values_end _ _ _ _ c.loop-i-test.false)

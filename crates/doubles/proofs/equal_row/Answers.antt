@@ -51,7 +51,7 @@ compare_column-requires c = (
 )
 
 pub rows-preserved : goal.rows-preserved
-rows-preserved c = (omega arith, passed _ _ _ _ c.requires c.loop-column.invariant.1 c.loop-column-test.true c.loop-column.invariant.4 _ c.compare_column.ensures c.in_default.in_default-own.keys2 c.loop-column.invariant.3)
+rows-preserved c = (omega arith, passed _ _ _ _ c.requires c.loop-column.invariant.1 c.loop-column-test.true c.loop-column.invariant.4 _ c.compare_column.ensures c.in_default.not-Equal c.loop-column.invariant.3)
 
 pub loop-column-preserved : goal.loop-column-preserved
 loop-column-preserved c = (c.loop-column.invariant.0, c.loop-column.invariant.1, omega arith, c.loop-column.invariant.3, next_column _ _ _ _ c.requires c.loop-column.invariant.1 c.loop-column-test.true c.loop-column.invariant.4 _ c.compare_column.ensures c.in-Equal.is)

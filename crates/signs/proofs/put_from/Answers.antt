@@ -13,4 +13,4 @@ returns c = let start = c in
     let placed = c.sign_place-place in
     let put = c.put_bytes in
     let r = placed.result in
-    subst (λ b. Puts start.args.out.now start.args.at b put.result put.new.1.0) (sign_part start.args.text.now (r / 8) (r % 8) start.args.op start.requires.0 placed.ensures.0) put.ensures
+    subst (λ b. Puts start.args.out.now start.args.at b put.result put.new.out) (sign_part start.args.text.now (r / 8) (r % 8) start.args.op start.requires.0 placed.ensures.0) put.ensures

@@ -1,5 +1,6 @@
 -- `spelling::put_leaf` meets its contract. Assumes nothing.
 use native.Mathlib.Nat.{add-sub_cancel_left}
+use native.Mathlib.Omega.{arith}
 use lib.ListN.{length}
 use Rattle.puts.proofs.Putting.{puts_none}
 use Rattle.spelling.proofs.Leaves.{atom_name, name_inside, atom_number, atom_literal, literal_well}
@@ -9,7 +10,7 @@ pub slice_bounds-put_bytes-end : goal.slice_bounds-put_bytes-end
 slice_bounds-put_bytes-end c = name_inside _ c.in-3.is (length c.args.stored.now) c.requires.0
 
 pub put_value-requires : goal.put_value-requires
-put_value-requires c = (literal_well _ c.in_default.in_default-own.rest.0.1 c.in_default.in_default-own.rest.1 (length c.args.stored.now) c.requires.0, c.requires.1)
+put_value-requires c = (literal_well _ (omega arith) (omega arith) (length c.args.stored.now) c.requires.0, c.requires.1)
 
 pub returns-in-3 : goal.returns-in-3
 returns-in-3 c = rw (atom_name _ c.in-3.is) (rw add-sub_cancel_left at c.put_bytes.ensures)
@@ -18,4 +19,4 @@ pub returns-in-4 : goal.returns-in-4
 returns-in-4 c = rw (atom_number _ c.in-4.is) (puts_none _ _)
 
 pub returns-in_default : goal.returns-in_default
-returns-in_default c = rw (atom_literal _ c.in_default.in_default-own.rest.0.1 c.in_default.in_default-own.rest.1) c.put_value.ensures
+returns-in_default c = rw (atom_literal c.args.word (omega arith) (omega arith)) c.put_value.ensures
