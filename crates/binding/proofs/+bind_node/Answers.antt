@@ -6,7 +6,6 @@ use mathlib.Core.Path.{sym, ◌∙◌}
 use lib.ListN.{length-set}
 use Rattle.conditions.proofs.Walk.{depth_left}
 use Rattle.binding.proofs.Walking.{leaf_asks, leaf_bound, one_known, one_below, one_asks, one_refused, one_room, one_next, one_binds, two_known, two_below, left_asks, left_refused, right_asks, right_refused, two_room, two_next, two_binds}
-use borrow.Fn.PlainCycle.{is}
 use Rattle.binding.proofs.+bind_node.Goals as goal
 
 pub offset_bounds-nodes-k : goal.offset_bounds-nodes-k

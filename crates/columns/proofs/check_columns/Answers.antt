@@ -1,6 +1,5 @@
 -- `columns::check_columns` meets its contract. The loop's invariant: the columns are refused as those that are left. Assumes nothing.
 use mathlib.Core.Path.{sym, ◌∙◌}
-use Prim.Native.Nat.{◌-◌}
 use native.Mathlib.Nat.{add-zero, add_assoc}
 use Rattle.refusals.proofs.First.{refused_first, sound_first}
 use Rattle.columns.proofs.Turns.{columns_turn, columns_end}

@@ -1,6 +1,5 @@
 -- `columns::find_column` meets its contract. The loop's invariant is that of a search partway. Assumes nothing.
 use mathlib.Core.Path.{sym, ◌∙◌}
-use Prim.Native.Nat.{◌-◌}
 use native.Mathlib.Nat.{add-sub_cancel_left}
 use Rattle.columns.proofs.Turns.{searching_start, searching_inside, searching_found, searching_turn, searching_end}
 use borrow.Author.Rules.{rules}

@@ -10,4 +10,4 @@ pub order_rows-requires-2 : goal.order_rows-requires-2
 order_rows-requires-2 c = (c.requires.new_rows, omega (arith, c.requires.new_rows.few), new_once _ _ _ _ _ _ _ c.requires)
 
 pub merge_rows-requires : goal.merge_rows-requires
-merge_rows-requires c = merge_asks _ _ _ _ _ _ _ c.requires _ _ _ c.order_rows.kept.1.1.1.1.0 c.order_rows-2.kept.1.1.1.1.0 c.order_rows.ensures c.order_rows-2.ensures
+merge_rows-requires c = merge_asks _ _ _ _ _ _ _ c.requires _ _ _ c.order_rows.auto.order c.order_rows-2.auto.order c.order_rows.ensures c.order_rows-2.ensures

@@ -1,4 +1,5 @@
 -- `values::compare` meets its contract. Assumes nothing.
+use borrow.Enum.Refused.{opened}
 use mathlib.Core.Path.{ap₂, ◌∙◌}
 use native.Mathlib.Nat.{add-sub_cancel_left}
 use lib.ListN.{length}
@@ -29,7 +30,7 @@ returns-in-Null-b c = rw (c.in-Null.is, c.in-Null-b.is)
 
 pub returns-in_default : goal.returns-in_default
 unfolding to_value
-returns-in_default c = rw c.in-Null.is (null_other c.args.stored.now c.args.b c.in_default.in_default-own.keys2)
+returns-in_default c = rw c.in-Null.is (null_other c.args.stored.now c.args.b (opened c.in_default.in_default-own.keys2))
 
 pub returns-in-Null-b-2 : goal.returns-in-Null-b-2
 unfolding order to_value
@@ -63,4 +64,4 @@ returns-in-Binary-b-2 c = rw (c.in-Binary.is, c.in-Binary-b-2.is)
 
 pub returns-in_default-b-3 : goal.returns-in_default-b-3
 unfolding to_value
-returns-in_default-b-3 c = rw c.in-Binary.is (binary_other c.args.stored.now c.args.b c.in_default-b-3.in_default-b-3-own.keys2)
+returns-in_default-b-3 c = rw c.in-Binary.is (binary_other c.args.stored.now c.args.b (opened c.in_default-b-3.in_default-b-3-own.keys2))
