@@ -1,6 +1,6 @@
 -- Document 01's checked examples. Assumes nothing: this is a table.
 use Rattle.std.specs.Prelude.{List, [], ◌∷◌, pos, negsuc, ℕ}
-use Rattle.values.specs.Value.{Value, null, int, str, binary}
+use Rattle.values.specs.Value.{Value, null, int, str}
 use Rattle.examples.specs.Example.{Call, unary, evaluates, folds, left_joins, Expected, gives, stops, refuses, writes, Example}
 
 -- −2147483648

@@ -16,7 +16,7 @@ use Rattle.writing.specs.Marked.{wrote}
 use Rattle.checks.specs.Check.{room_stop, output_stop}
 use Rattle.checks.proofs.Turns.{room_there, output_there}
 use Rattle.operators.specs.declared.Rules.{Rules}
-use Rattle.conditions.specs.Ast.{Tree, size}
+use Rattle.conditions.specs.Ast.{Tree}
 use Rattle.nodes.specs.declared.Allowed.TheVariants.{Mixed}
 use Rattle.forms.specs.Form.{parsed, form_stop}
 use Rattle.forms.specs.Held.{ScanIs}

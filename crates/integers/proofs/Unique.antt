@@ -4,7 +4,7 @@ use mathlib.Core.Bool.{cond}
 use Prim.Native.Nat.{ℕ}
 use lib.Dec.{eqb}
 use Rattle.values.specs.Value.{Value}
-use Rattle.integers.specs.Outcome.{Outcome, value, Reply, gave, refused, reply_of}
+use Rattle.integers.specs.Outcome.{Outcome, value, Reply, gave, reply_of}
 use Rattle.integers.specs.declared.Answer.{Answer}
 use Rattle.integers.specs.declared.Answer.TheVariants.{Gave, Overflow, ShiftAmount, TooLong}
 

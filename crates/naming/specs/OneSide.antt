@@ -1,6 +1,6 @@
 -- The columns of a join, one side of them (document 01, "Joined columns get table name, dot, column name"; Column::with_name_prefix and
 -- but_nullable of column.rs). Assumes nothing: these are definitions.
-use Rattle.std.specs.Prelude.{ℕ, suc, ◌+◌, Bool, true, false, cond, List, [], ◌∷◌, ◌++◌, length, leb}
+use Rattle.std.specs.Prelude.{ℕ, suc, Bool, true, false, cond, List, [], ◌∷◌, ◌++◌, length, leb}
 use Rattle.slices.specs.Splice.{piece}
 use Rattle.cells.specs.Cell.{start_of, length_of, word_of}
 use Rattle.cells.specs.declared.ValueRef.TheVariants.{Str}

@@ -11,6 +11,7 @@ use writing::Written;
 
 // Standard input and output, as the system numbers them.
 const STDIN: i32 = 0;
+
 const STDOUT: i32 = 1;
 
 // A slice of a case: its first byte, how many elements it has, and where the next part starts.

@@ -14,7 +14,7 @@ use Rattle.conditions.specs.Ast.{Tree, leaf, binary, height, size}
 use Rattle.conditions.specs.Table.{RowSound}
 use Rattle.nodes.specs.Kind.{is_kind, known, body_of, leaf_word}
 use Rattle.nodes.specs.declared.Allowed.TheVariants.{Bound}
-use Rattle.forms.specs.Form.{tree, go, on_two, node_at, finish, follow, parse, parsed}
+use Rattle.forms.specs.Form.{go, on_two, node_at, finish, follow, parse, parsed}
 use Rattle.forms.specs.Number.{is_missing, numbers_stop}
 use Rattle.forms.proofs.Steps.{to_leaf, to_two}
 use Rattle.forms.proofs.Scanning.{parse_more, parse_end}

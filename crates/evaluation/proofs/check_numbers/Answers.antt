@@ -1,6 +1,6 @@
 -- `evaluation::check_numbers` meets its contract. The loop's invariant: what is left to look at decides. Assumes nothing.
 use mathlib.Core.Path.{◌≡◌, refl, sym, ◌∙◌}
-use Prim.Native.Nat.{ℕ, ◌+◌, ◌-◌, ◌≤◌}
+use Prim.Native.Nat.{ℕ, ◌+◌, ◌≤◌}
 use Rattle.nodes.proofs.Bodies.{body_short}
 use Rattle.forms.proofs.Numbers.{numbers_end, numbers_full, numbers_found, numbers_turn}
 use native.Mathlib.Omega.{arith}

@@ -1,6 +1,6 @@
 -- `forms::scan` meets its contract. The loop's invariant: the tables hold the definition's stack, and the definition goes on from here. Assumes nothing.
 use mathlib.Core.Path.{refl, sym, ◌∙◌}
-use Prim.Native.Nat.{◌-◌, ◌<◌}
+use Prim.Native.Nat.{◌<◌}
 use native.Mathlib.Nat.{pos_of_ne-zero}
 use Rattle.forms.proofs.Scanning.{scan_start, scan_full, step_asks, scan_refused, scan_less, scan_more, scan_none, scan_many, scan_one}
 use native.Mathlib.Omega.{arith}

@@ -8,15 +8,15 @@ use Rattle.forms.proofs.scan_two.Goals as goal
 
 pub returns-then-n-eq0 : goal.returns-then-n-eq0
 returns-then-n-eq0 c = record {
-    fine = refl;
-    is = λ used nodes s l h. two_empty used nodes _ _ _ c.requires.1.0 c.requires.1.1 l _ _ s c.if-n-eq0.true h;
-  }
+  fine = refl;
+  is = λ used nodes s l h. two_empty used nodes _ _ _ c.requires.1.0 c.requires.1.1 l _ _ s c.if-n-eq0.true h;
+}
 
 pub returns-then-right-eq0 : goal.returns-then-right-eq0
 returns-then-right-eq0 c = record {
-    fine = refl;
-    is = λ used nodes s l h. two_single used nodes _ _ _ c.requires.1.0 c.requires.1.1 l _ _ s c.if-n-eq0.false c.if-right-eq0.true h;
-  }
+  fine = refl;
+  is = λ used nodes s l h. two_single used nodes _ _ _ c.requires.1.0 c.requires.1.1 l _ _ s c.if-n-eq0.false c.if-right-eq0.true h;
+}
 
 pub offset_bounds-deeps-l : goal.offset_bounds-deeps-l
 offset_bounds-deeps-l c = scaled_Fits _ 64 8 (marks_left _ _ _ c.requires.1.0 c.requires.1.1 c.if-n-eq0.false c.if-right-eq0.false).0 (lit< tt)
@@ -26,9 +26,9 @@ bounds-deeps-l c = (marks_left _ _ _ c.requires.1.0 c.requires.1.1 c.if-n-eq0.fa
 
 pub returns-then-higher-ge16 : goal.returns-then-higher-ge16
 returns-then-higher-ge16 c = record {
-    fine = refl;
-    is = λ used nodes s l h. two_deep used nodes _ _ _ c.requires.1.0 c.requires.1.1 l _ _ s c.if-n-eq0.false c.if-right-eq0.false h (rw c.larger-higher.ensures at c.if-higher-ge16.true);
-  }
+  fine = refl;
+  is = λ used nodes s l h. two_deep used nodes _ _ _ c.requires.1.0 c.requires.1.1 l _ _ s c.if-n-eq0.false c.if-right-eq0.false h (rw c.larger-higher.ensures at c.if-higher-ge16.true);
+}
 
 pub overflow_add-result : goal.overflow_add-result
 overflow_add-result c = omega (arith, c.requires.0.1, (marks_left _ _ _ c.requires.1.0 c.requires.1.1 c.if-n-eq0.false c.if-right-eq0.false).0)
@@ -41,8 +41,8 @@ bounds-starts-l c = (marks_left _ _ _ c.requires.1.0 c.requires.1.1 c.if-n-eq0.f
 
 pub returns : goal.returns
 returns c = record {
-    fine = (marks_left_start _ _ _ c.requires.1.0 c.requires.1.1 c.if-n-eq0.false c.if-right-eq0.false, omega (arith, c.if-higher-ge16.false), refl, c.if-n-eq0.false);
-    is = λ used nodes s l h. rw c.larger-higher.ensures
+  fine = (marks_left_start _ _ _ c.requires.1.0 c.requires.1.1 c.if-n-eq0.false c.if-right-eq0.false, omega (arith, c.if-higher-ge16.false), refl, c.if-n-eq0.false);
+  is = λ used nodes s l h. rw c.larger-higher.ensures
       (two_step used nodes _ _ _ c.requires.1.0 c.requires.1.1 l _ _ s c.if-n-eq0.false c.if-right-eq0.false h c.requires.0.0 c.requires.0.1
       (rw c.larger-higher.ensures at c.if-higher-ge16.false));
-  }
+}

@@ -1,6 +1,6 @@
 -- `marking::mark_rows` meets its contract. The loop's invariant: what is left of the rows says the rest. Assumes nothing.
 use mathlib.Core.Path.{◌∙◌}
-use Prim.Native.Nat.{◌-◌, ◌*◌, ◌+◌, ◌≤◌}
+use Prim.Native.Nat.{◌*◌, ◌+◌, ◌≤◌}
 use native.Mathlib.Omega.{arith}
 use lib.ListN.{length, take, set}
 use Rattle.operators.specs.Operator.{base}
@@ -44,9 +44,9 @@ shape_of-marks-in_default c =
 
 pub returns-in_default : goal.returns-in_default
 returns-in_default c = record {
-    by_index = λ b A. loop_refused _ _ _ _ _ _ _ _ c.loop-i.invariant c.loop-i-test.true _ c.mark_row-one.auto.text _ c.mark_row-one.ensures b A _ c.in_default.is;
-    text_unchanged = loop_alone _ _ _ _ _ _ _ _ c.loop-i.invariant c.loop-i-test.true _ c.mark_row-one.auto.text _ c.mark_row-one.ensures _ c.requires.1;
-  }
+  by_index = λ b A. loop_refused _ _ _ _ _ _ _ _ c.loop-i.invariant c.loop-i-test.true _ c.mark_row-one.auto.text _ c.mark_row-one.ensures b A _ c.in_default.is;
+  text_unchanged = loop_alone _ _ _ _ _ _ _ _ c.loop-i.invariant c.loop-i-test.true _ c.mark_row-one.auto.text _ c.mark_row-one.ensures _ c.requires.1;
+}
 
 pub offset_bounds-marks-i : goal.offset_bounds-marks-i
 offset_bounds-marks-i c = omega (arith, c.requires.1.table.few)
@@ -80,6 +80,6 @@ shape_of-marks c =
 
 pub returns : goal.returns
 returns c = record {
-    by_index = loop_end _ _ _ _ _ _ _ _ c.loop-i.invariant c.loop-i-test.false;
-    text_unchanged = c.loop-i.invariant.alone;
-  }
+  by_index = loop_end _ _ _ _ _ _ _ _ c.loop-i.invariant c.loop-i-test.false;
+  text_unchanged = c.loop-i.invariant.alone;
+}

@@ -1,5 +1,4 @@
 -- `naming::join_side` meets its contract. The loop's invariant: the words and the text so far, and then what is left of the side. Assumes nothing.
-use Prim.Native.Nat.{◌-◌}
 use native.Mathlib.Omega.{arith}
 use lib.ListN.{length-set}
 use Rattle.naming.proofs.Joining.{joining_start, joining_end, joining_asks, joining_refused, joining_turn}

@@ -9,7 +9,6 @@ use Rattle.integers.specs.Outcome.{value}
 use Rattle.operators.specs.Operator.{compared, binary_of, Applied}
 use Rattle.operators.proofs.ByKind.{not_int, not_str, binary_compared, binary_ints, binary_join, binary_texts, binary_int_other, binary_text_other, binary_other, applied_null, applied_ints, applied_flag}
 use native.Mathlib.Omega.{arith}
-use borrow.Author.Rules.{rules}
 use Rattle.operators.proofs.binary.Goals as goal
 
 pub slice_bounds-compare-end-then-op-lt38 : goal.slice_bounds-compare-end-then-op-lt38

@@ -11,7 +11,6 @@ use Rattle.integers.proofs.Placing.{placed_null}
 use Rattle.operators.specs.Operator.{unary_of}
 use Rattle.operators.proofs.ByKind.{not_int, unary_other}
 use native.Mathlib.Omega.{arith}
-use borrow.Author.Rules.{rules}
 use Rattle.operators.proofs.unary.Goals as goal
 
 pub returns-then-op-eq18 : goal.returns-then-op-eq18

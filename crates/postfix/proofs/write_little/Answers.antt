@@ -1,6 +1,5 @@
 -- `postfix::write_little` meets its contract. The loop's invariant: i bytes are written, and rest is what is left of the number.
 -- Assumes nothing.
-use Prim.Native.Nat.{◌-◌}
 use Rattle.postfix.proofs.Writing.{writing_start, writing_turn, writing_end}
 use Rattle.postfix.proofs.write_little.Goals as goal
 

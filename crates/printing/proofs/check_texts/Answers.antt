@@ -1,6 +1,6 @@
 -- `printing::check_texts` meets its contract. The loop's invariant: what is left to look at decides. Assumes nothing.
 use mathlib.Core.Path.{sym, ◌∙◌}
-use Prim.Native.Nat.{◌+◌, ◌-◌, ◌≤◌}
+use Prim.Native.Nat.{◌+◌, ◌≤◌}
 use native.Mathlib.Omega.{arith}
 use lib.ListN.{length}
 use Rattle.printing.proofs.Texts.{left_start, left_end, left_inside, left_text, left_found, left_turn}

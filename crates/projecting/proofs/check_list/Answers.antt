@@ -1,6 +1,5 @@
 -- `projecting::check_list` meets its contract. The loop's invariant: what is left of the list says the rest. Assumes nothing.
 use mathlib.Core.Path.{refl, sym, ◌∙◌}
-use Prim.Native.Nat.{◌-◌}
 use Rattle.projecting.proofs.Listing.{list_stops, list_turn, list_end}
 use borrow.Author.Rules.{rules}
 use Rattle.projecting.proofs.check_list.Goals as goal

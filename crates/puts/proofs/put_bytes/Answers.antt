@@ -1,6 +1,5 @@
 -- `puts::put_bytes` meets its contract. The loop's invariant: putting the bytes left gives the same as putting all of them.
 -- Assumes nothing.
-use Prim.Native.Nat.{◌-◌}
 use native.Mathlib.Omega.{arith}
 use lib.ListN.{length-drop, drop_of_length-le}
 use Rattle.puts.proofs.Putting.{partway_start, partway_turn, partway_end, partway_length, split_at}

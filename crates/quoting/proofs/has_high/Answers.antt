@@ -1,7 +1,6 @@
 -- `quoting::has_high` meets its contract. The loop's invariant: such a byte stands in the text exactly if one stands in what is left of it.
 -- Assumes nothing.
 use mathlib.Core.Path.{refl, sym, ◌∙◌}
-use Prim.Native.Nat.{◌-◌}
 use Rattle.quoting.proofs.Quoting.{high_end, high_here, low_here}
 use Rattle.quoting.proofs.has_high.Goals as goal
 

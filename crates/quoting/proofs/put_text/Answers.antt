@@ -1,6 +1,5 @@
 -- `quoting::put_text` meets its contract. The loop's invariant: putting what is left, escaped, gives the same as putting the whole text.
 -- Assumes nothing.
-use Prim.Native.Nat.{◌-◌}
 use native.Mathlib.Omega.{arith}
 use Rattle.puts.proofs.Putting.{partway_start, partway_turn, partway_end, partway_length, puts_then}
 use Rattle.quoting.proofs.Quoting.{escaped_from, escaped_end, all_short}

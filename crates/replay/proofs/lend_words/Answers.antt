@@ -1,6 +1,5 @@
 -- `replay::lend_words` is safe and keeps the length. Assumes nothing.
 use mathlib.Core.Path.{refl}
-use Prim.Native.Nat.{◌-◌}
 use lib.ListN.{length-set}
 use borrow.Author.Rules.{rules}
 use Rattle.replay.proofs.lend_words.Goals as goal

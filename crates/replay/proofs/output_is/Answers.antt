@@ -1,6 +1,5 @@
 -- `replay::output_is` meets its contract. The loop's invariant: what is left of the output tells whether rubbish follows the result. Assumes nothing.
 use mathlib.Core.Path.{sym, ◌∙◌}
-use Prim.Native.Nat.{◌-◌}
 use native.Mathlib.Omega.{arith}
 use lib.Seq.{length-take-le}
 use Rattle.replay.specs.Compare.{rubbish_byte}

@@ -1,6 +1,5 @@
 -- `replay::same_words` meets its contract. The loop's invariant: what is left of the words tells whether they are the same. Assumes nothing.
 use mathlib.Core.Path.{refl, sym, ◌∙◌}
-use Prim.Native.Nat.{◌-◌}
 use native.Mathlib.Omega.{arith}
 use Rattle.slices.proofs.Bytes.{same_length}
 use Rattle.replay.proofs.Comparing.{words_differ, words_agree, words_end}

@@ -1,6 +1,5 @@
 -- `replay::words` meets its contract. Assumes nothing.
 use mathlib.Core.Path.{refl}
-use Prim.Native.Nat.{◌-◌}
 use lib.ListN.{length-set}
 use borrow.Author.Rules.{rules}
 use Rattle.replay.proofs.words.Goals as goal

@@ -1,6 +1,5 @@
 -- `replay_operators::main` is safe and ends. Assumes nothing.
 use mathlib.Core.Path.{sym, ◌∙◌}
-use Prim.Native.Nat.{◌-◌}
 use lib.Seq.{length-take-le}
 use native.Mathlib.Omega.{arith}
 use Rattle.replay_operators.proofs.main.Goals as goal

@@ -28,21 +28,21 @@ returns-in-1 c = rw (lt-ltb _ _ c.if-rule-ge4294967296.false, eq-eqb _ _ c.if-ru
 pub returns-in-3 : goal.returns-in-3
 unfolding is_rule
 returns-in-3 c = rw (
-      lt-ltb _ _ c.if-rule-ge4294967296.false,
-      eq-eqb _ _ c.if-rule-ne0.false,
-      ne_eqb _ _ c.if-rule-eq2.false,
-      eq-eqb _ _ c.if-rule-ne0-2.false,
-      ne_eqb (c.args.rule % 256) 1 (omega arith),
-      eq-eqb _ _ c.in-3.is,
-    )
+  lt-ltb _ _ c.if-rule-ge4294967296.false,
+  eq-eqb _ _ c.if-rule-ne0.false,
+  ne_eqb _ _ c.if-rule-eq2.false,
+  eq-eqb _ _ c.if-rule-ne0-2.false,
+  ne_eqb (c.args.rule % 256) 1 (omega arith),
+  eq-eqb _ _ c.in-3.is,
+)
 
 pub returns-in_default : goal.returns-in_default
 unfolding is_rule
 returns-in_default c = rw (
-      lt-ltb _ _ c.if-rule-ge4294967296.false,
-      eq-eqb _ _ c.if-rule-ne0.false,
-      ne_eqb _ _ c.if-rule-eq2.false,
-      eq-eqb _ _ c.if-rule-ne0-2.false,
-      ne_eqb _ _ c.in_default.in_default-own.rest.0.1,
-      ne_eqb _ _ c.in_default.in_default-own.rest.1,
-    )
+  lt-ltb _ _ c.if-rule-ge4294967296.false,
+  eq-eqb _ _ c.if-rule-ne0.false,
+  ne_eqb _ _ c.if-rule-eq2.false,
+  eq-eqb _ _ c.if-rule-ne0-2.false,
+  ne_eqb _ _ c.in_default.in_default-own.rest.0.1,
+  ne_eqb _ _ c.in_default.in_default-own.rest.1,
+)

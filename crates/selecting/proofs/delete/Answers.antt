@@ -13,9 +13,9 @@ use Rattle.selecting.proofs.delete.Goals as goal
 
 pub returns-in-Refused : goal.returns-in-Refused
 returns-in-Refused c = record {
-    delete_is = delete_table (record { columns = c.args.columns.now; rows = c.args.rows.now; list = []; condition = c.args.condition.now; text = c.args.text.now; out = c.args.out.now; used = c.args.used }) _ (told_refused _ _ _ c.in-Refused.is c.check_table-table.ensures);
-    text_unchanged = (refl, λ z. refl);
-  }
+  delete_is = delete_table (record { columns = c.args.columns.now; rows = c.args.rows.now; list = []; condition = c.args.condition.now; text = c.args.text.now; out = c.args.out.now; used = c.args.used }) _ (told_refused _ _ _ c.in-Refused.is c.check_table-table.ensures);
+  text_unchanged = (refl, λ z. refl);
+}
 
 pub nonzero_div-n : goal.nonzero_div-n
 nonzero_div-n c =
@@ -42,14 +42,14 @@ pub returns-in-Refused-mark_table : goal.returns-in-Refused-mark_table
 returns-in-Refused-mark_table c =
     let passed_table : TableStop true (record { columns = c.args.columns.now; rows = c.args.rows.now; list = []; condition = c.args.condition.now; text = c.args.text.now; out = c.args.out.now; used = c.args.used }) ≡ never = told_sound _ _ c.in_default.is c.check_table-table.ensures in
     record {
-    delete_is = delete_refused (record { columns = c.args.columns.now; rows = c.args.rows.now; list = []; condition = c.args.condition.now; text = c.args.text.now; out = c.args.out.now; used = c.args.used }) _ _ _ _ c.mark_table.ensures passed_table _ c.in-Refused-mark_table.is;
-    text_unchanged = (c.mark_table.ensures.kept, c.mark_table.ensures.alone);
-  }
+      delete_is = delete_refused (record { columns = c.args.columns.now; rows = c.args.rows.now; list = []; condition = c.args.condition.now; text = c.args.text.now; out = c.args.out.now; used = c.args.used }) _ _ _ _ c.mark_table.ensures passed_table _ c.in-Refused-mark_table.is;
+      text_unchanged = (c.mark_table.ensures.kept, c.mark_table.ensures.alone);
+    }
 
 pub returns-in-Rows : goal.returns-in-Rows
 returns-in-Rows c =
     let passed_table : TableStop true (record { columns = c.args.columns.now; rows = c.args.rows.now; list = []; condition = c.args.condition.now; text = c.args.text.now; out = c.args.out.now; used = c.args.used }) ≡ never = told_sound _ _ c.in_default.is c.check_table-table.ensures in
     record {
-    delete_is = delete_written (record { columns = c.args.columns.now; rows = c.args.rows.now; list = []; condition = c.args.condition.now; text = c.args.text.now; out = c.args.out.now; used = c.args.used }) _ _ _ _ c.mark_table.ensures _ c.in-Rows.is passed_table _ _ c.write_kept.ensures;
-    text_unchanged = (c.mark_table.ensures.kept, c.mark_table.ensures.alone);
-  }
+      delete_is = delete_written (record { columns = c.args.columns.now; rows = c.args.rows.now; list = []; condition = c.args.condition.now; text = c.args.text.now; out = c.args.out.now; used = c.args.used }) _ _ _ _ c.mark_table.ensures _ c.in-Rows.is passed_table _ _ c.write_kept.ensures;
+      text_unchanged = (c.mark_table.ensures.kept, c.mark_table.ensures.alone);
+    }

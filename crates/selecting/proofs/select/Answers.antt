@@ -13,17 +13,17 @@ use Rattle.selecting.proofs.select.Goals as goal
 
 pub returns-in-Refused : goal.returns-in-Refused
 returns-in-Refused c = record {
-    select_is = select_table (record { columns = c.args.columns.now; rows = c.args.rows.now; list = c.args.list.now; condition = c.args.condition.now; text = c.args.text.now; out = c.args.out.now; used = c.args.used }) _ (told_refused _ _ _ c.in-Refused.is c.check_table-table.ensures);
-    text_unchanged = (refl, λ z. refl);
-  }
+  select_is = select_table (record { columns = c.args.columns.now; rows = c.args.rows.now; list = c.args.list.now; condition = c.args.condition.now; text = c.args.text.now; out = c.args.out.now; used = c.args.used }) _ (told_refused _ _ _ c.in-Refused.is c.check_table-table.ensures);
+  text_unchanged = (refl, λ z. refl);
+}
 
 pub returns-in-Refused-listed : goal.returns-in-Refused-listed
 returns-in-Refused-listed c =
     let passed_table : TableStop (leb (length c.args.list.now) 32) (record { columns = c.args.columns.now; rows = c.args.rows.now; list = c.args.list.now; condition = c.args.condition.now; text = c.args.text.now; out = c.args.out.now; used = c.args.used }) ≡ never = told_sound _ _ c.in_default.is c.check_table-table.ensures in
     record {
-    select_is = select_list (record { columns = c.args.columns.now; rows = c.args.rows.now; list = c.args.list.now; condition = c.args.condition.now; text = c.args.text.now; out = c.args.out.now; used = c.args.used }) passed_table _ (told_refused _ _ _ c.in-Refused-listed.is c.check_list-listed.ensures);
-    text_unchanged = (refl, λ z. refl);
-  }
+      select_is = select_list (record { columns = c.args.columns.now; rows = c.args.rows.now; list = c.args.list.now; condition = c.args.condition.now; text = c.args.text.now; out = c.args.out.now; used = c.args.used }) passed_table _ (told_refused _ _ _ c.in-Refused-listed.is c.check_list-listed.ensures);
+      text_unchanged = (refl, λ z. refl);
+    }
 
 pub nonzero_div-n : goal.nonzero_div-n
 nonzero_div-n c =
@@ -49,15 +49,15 @@ returns-in-Refused-mark_table c =
     let passed_table : TableStop (leb (length c.args.list.now) 32) (record { columns = c.args.columns.now; rows = c.args.rows.now; list = c.args.list.now; condition = c.args.condition.now; text = c.args.text.now; out = c.args.out.now; used = c.args.used }) ≡ never = told_sound _ _ c.in_default.is c.check_table-table.ensures in
     let passed_list : list_stop (width_of (record { columns = c.args.columns.now; rows = c.args.rows.now; list = c.args.list.now; condition = c.args.condition.now; text = c.args.text.now; out = c.args.out.now; used = c.args.used })) 0 c.args.list.now ≡ never = told_sound _ _ c.in_default-listed.is c.check_list-listed.ensures in
     record {
-    select_is = select_refused (record { columns = c.args.columns.now; rows = c.args.rows.now; list = c.args.list.now; condition = c.args.condition.now; text = c.args.text.now; out = c.args.out.now; used = c.args.used }) _ _ _ _ c.mark_table.ensures passed_table passed_list _ c.in-Refused-mark_table.is;
-    text_unchanged = (c.mark_table.ensures.kept, c.mark_table.ensures.alone);
-  }
+      select_is = select_refused (record { columns = c.args.columns.now; rows = c.args.rows.now; list = c.args.list.now; condition = c.args.condition.now; text = c.args.text.now; out = c.args.out.now; used = c.args.used }) _ _ _ _ c.mark_table.ensures passed_table passed_list _ c.in-Refused-mark_table.is;
+      text_unchanged = (c.mark_table.ensures.kept, c.mark_table.ensures.alone);
+    }
 
 pub returns-in-Rows : goal.returns-in-Rows
 returns-in-Rows c =
     let passed_table : TableStop (leb (length c.args.list.now) 32) (record { columns = c.args.columns.now; rows = c.args.rows.now; list = c.args.list.now; condition = c.args.condition.now; text = c.args.text.now; out = c.args.out.now; used = c.args.used }) ≡ never = told_sound _ _ c.in_default.is c.check_table-table.ensures in
     let passed_list : list_stop (width_of (record { columns = c.args.columns.now; rows = c.args.rows.now; list = c.args.list.now; condition = c.args.condition.now; text = c.args.text.now; out = c.args.out.now; used = c.args.used })) 0 c.args.list.now ≡ never = told_sound _ _ c.in_default-listed.is c.check_list-listed.ensures in
     record {
-    select_is = select_written (record { columns = c.args.columns.now; rows = c.args.rows.now; list = c.args.list.now; condition = c.args.condition.now; text = c.args.text.now; out = c.args.out.now; used = c.args.used }) _ _ _ _ c.mark_table.ensures _ c.in-Rows.is passed_table passed_list _ _ c.write_kept.ensures;
-    text_unchanged = (c.mark_table.ensures.kept, c.mark_table.ensures.alone);
-  }
+      select_is = select_written (record { columns = c.args.columns.now; rows = c.args.rows.now; list = c.args.list.now; condition = c.args.condition.now; text = c.args.text.now; out = c.args.out.now; used = c.args.used }) _ _ _ _ c.mark_table.ensures _ c.in-Rows.is passed_table passed_list _ _ c.write_kept.ensures;
+      text_unchanged = (c.mark_table.ensures.kept, c.mark_table.ensures.alone);
+    }

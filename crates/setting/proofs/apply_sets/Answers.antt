@@ -1,5 +1,4 @@
 -- `setting::apply_sets` meets its contract. The loop's invariant: applying the sets that are left gives the result. Assumes nothing.
-use Prim.Native.Nat.{◌-◌}
 use native.Mathlib.Omega.{arith}
 use Rattle.setting.proofs.Setting.{applying_start, applying_inside, applying_turn, applying_end}
 use Rattle.setting.proofs.apply_sets.Goals as goal

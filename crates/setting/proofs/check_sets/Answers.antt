@@ -1,6 +1,5 @@
 -- `setting::check_sets` meets its contract. The loop's invariant: the sets are refused as those that are left. Assumes nothing.
 use mathlib.Core.Path.{refl, sym, ◌∙◌}
-use Prim.Native.Nat.{◌-◌}
 use Rattle.refusals.proofs.First.{refused_first, sound_first}
 use Rattle.setting.proofs.Setting.{sets_turn, sets_end}
 use Rattle.setting.proofs.check_sets.Goals as goal

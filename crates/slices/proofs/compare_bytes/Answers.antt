@@ -1,6 +1,6 @@
 -- `slices::compare_bytes` meets its contract. The loop's invariant: the order of the texts is the order of what is left of them.
 -- Assumes nothing.
-use Rattle.std.proofs.Common.{◌-◌, sym, refl, ◌∙◌, rules}
+use Rattle.std.proofs.Common.{sym, refl, ◌∙◌, rules}
 use Rattle.slices.proofs.Bytes.{right_ends, left_ends, both_end, less_here, greater_here, same_here}
 use Rattle.slices.proofs.compare_bytes.Goals as goal
 

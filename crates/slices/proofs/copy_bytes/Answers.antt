@@ -1,6 +1,6 @@
 -- `slices::copy_bytes` meets its contract. The loop's invariant is that of a copy partway.
 -- Assumes nothing.
-use Rattle.std.proofs.Common.{◌-◌, refl}
+use Rattle.std.proofs.Common.{refl}
 use Rattle.slices.proofs.Splice.{copying_start, copying_turn, copying_end}
 use Rattle.slices.proofs.copy_bytes.Goals as goal
 

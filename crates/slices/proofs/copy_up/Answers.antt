@@ -1,6 +1,6 @@
 -- `slices::copy_up` meets its contract. The loop's invariant is that of a copy partway; what is read lies below the place, and is kept.
 -- Assumes nothing.
-use Rattle.std.proofs.Common.{◌≡◌, ℕ, ◌+◌, ◌-◌, ◌<◌, ◌≤◌, List, length, get_or, set, sym, ap, ◌∙◌, arith, get_or-drop, get_or-take}
+use Rattle.std.proofs.Common.{◌≡◌, ℕ, ◌+◌, ◌<◌, ◌≤◌, List, length, get_or, set, sym, ap, ◌∙◌, arith, get_or-drop, get_or-take}
 use Rattle.slices.specs.Splice.{piece, Wrote}
 use Rattle.slices.proofs.Splice.{Copying, copying_start, copying_turn, copying_end, copying_kept}
 use Rattle.slices.proofs.Pieces.{piece_length}

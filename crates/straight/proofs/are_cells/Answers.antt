@@ -1,6 +1,5 @@
 -- `straight::are_cells` meets its contract. The loop's invariant: the cells are refused as those that are left. Assumes nothing.
 use mathlib.Core.Path.{refl, sym, ◌∙◌}
-use Prim.Native.Nat.{◌-◌}
 use Rattle.refusals.proofs.Bools.{true_false}
 use Rattle.straight.proofs.Reading.{cell_passed}
 use Rattle.checks.proofs.Turns.{cells_end}

@@ -1,6 +1,6 @@
 -- `straight::run` meets its contract. The loop's invariant: the stack holds the cells of the definition's stack of trees. Assumes nothing.
 use mathlib.Core.Path.{◌≡◌, refl, sym, subst}
-use Prim.Native.Nat.{◌+◌, ◌-◌, ◌≤◌}
+use Prim.Native.Nat.{◌+◌, ◌≤◌}
 use lib.ListN.{length, set}
 use Rattle.nodes.specs.Kind.{body_of}
 use Rattle.straight.specs.Straight.{LeafRead}

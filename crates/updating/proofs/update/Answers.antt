@@ -13,9 +13,9 @@ use Rattle.updating.proofs.update.Goals as goal
 
 pub returns-in-Refused : goal.returns-in-Refused
 returns-in-Refused c = record {
-    update_is = update_table (record { columns = c.args.columns.now; rows = c.args.rows.now; list = c.args.sets.now; condition = c.args.condition.now; text = c.args.text.now; out = c.args.out.now; used = c.args.used }) _ (ap (λ x. TableStop x (record { columns = c.args.columns.now; rows = c.args.rows.now; list = c.args.sets.now; condition = c.args.condition.now; text = c.args.text.now; out = c.args.out.now; used = c.args.used })) (sym c.are_sets.ensures) ∙ told_refused _ _ _ c.in-Refused.is c.check_table-table.ensures);
-    text_unchanged = (refl, λ z. refl);
-  }
+  update_is = update_table (record { columns = c.args.columns.now; rows = c.args.rows.now; list = c.args.sets.now; condition = c.args.condition.now; text = c.args.text.now; out = c.args.out.now; used = c.args.used }) _ (ap (λ x. TableStop x (record { columns = c.args.columns.now; rows = c.args.rows.now; list = c.args.sets.now; condition = c.args.condition.now; text = c.args.text.now; out = c.args.out.now; used = c.args.used })) (sym c.are_sets.ensures) ∙ told_refused _ _ _ c.in-Refused.is c.check_table-table.ensures);
+  text_unchanged = (refl, λ z. refl);
+}
 
 pub check_sets-wrong-requires : goal.check_sets-wrong-requires
 check_sets-wrong-requires c =
@@ -28,9 +28,9 @@ returns-in-Refused-wrong c =
     let passed_table : TableFor (record { columns = c.args.columns.now; rows = c.args.rows.now; list = c.args.sets.now; condition = c.args.condition.now; text = c.args.text.now; out = c.args.out.now; used = c.args.used }) ≡ never = ap (λ x. TableStop x (record { columns = c.args.columns.now; rows = c.args.rows.now; list = c.args.sets.now; condition = c.args.condition.now; text = c.args.text.now; out = c.args.out.now; used = c.args.used })) (sym c.are_sets.ensures) ∙ told_sound _ _ c.in_default.is c.check_table-table.ensures in
     let passed : PassedBy (are_sets c.args.sets.now) (record { columns = c.args.columns.now; rows = c.args.rows.now; list = c.args.sets.now; condition = c.args.condition.now; text = c.args.text.now; out = c.args.out.now; used = c.args.used }) = table_passed _ _ _ _ _ _ (passed_table) in
     record {
-    update_is = update_sets (record { columns = c.args.columns.now; rows = c.args.rows.now; list = c.args.sets.now; condition = c.args.condition.now; text = c.args.text.now; out = c.args.out.now; used = c.args.used }) passed_table _ (told_refused _ _ _ c.in-Refused-wrong.is (c.check_sets-wrong.ensures _ (stored_length (record { columns = c.args.columns.now; rows = c.args.rows.now; list = c.args.sets.now; condition = c.args.condition.now; text = c.args.text.now; out = c.args.out.now; used = c.args.used }) passed)));
-    text_unchanged = (refl, λ z. refl);
-  }
+      update_is = update_sets (record { columns = c.args.columns.now; rows = c.args.rows.now; list = c.args.sets.now; condition = c.args.condition.now; text = c.args.text.now; out = c.args.out.now; used = c.args.used }) passed_table _ (told_refused _ _ _ c.in-Refused-wrong.is (c.check_sets-wrong.ensures _ (stored_length (record { columns = c.args.columns.now; rows = c.args.rows.now; list = c.args.sets.now; condition = c.args.condition.now; text = c.args.text.now; out = c.args.out.now; used = c.args.used }) passed)));
+      text_unchanged = (refl, λ z. refl);
+    }
 
 pub nonzero_div-n : goal.nonzero_div-n
 nonzero_div-n c =
@@ -57,9 +57,9 @@ returns-in-Refused-mark_table c =
     let passed : PassedBy (are_sets c.args.sets.now) (record { columns = c.args.columns.now; rows = c.args.rows.now; list = c.args.sets.now; condition = c.args.condition.now; text = c.args.text.now; out = c.args.out.now; used = c.args.used }) = table_passed _ _ _ _ _ _ (passed_table) in
     let passed_sets : SetsFor (record { columns = c.args.columns.now; rows = c.args.rows.now; list = c.args.sets.now; condition = c.args.condition.now; text = c.args.text.now; out = c.args.out.now; used = c.args.used }) ≡ never = told_sound _ _ c.in_default-wrong.is (c.check_sets-wrong.ensures _ (stored_length (record { columns = c.args.columns.now; rows = c.args.rows.now; list = c.args.sets.now; condition = c.args.condition.now; text = c.args.text.now; out = c.args.out.now; used = c.args.used }) (passed))) in
     record {
-    update_is = update_refused (record { columns = c.args.columns.now; rows = c.args.rows.now; list = c.args.sets.now; condition = c.args.condition.now; text = c.args.text.now; out = c.args.out.now; used = c.args.used }) passed_table passed_sets _ _ _ _ c.mark_table.ensures _ c.in-Refused-mark_table.is;
-    text_unchanged = (c.mark_table.ensures.kept, c.mark_table.ensures.alone);
-  }
+      update_is = update_refused (record { columns = c.args.columns.now; rows = c.args.rows.now; list = c.args.sets.now; condition = c.args.condition.now; text = c.args.text.now; out = c.args.out.now; used = c.args.used }) passed_table passed_sets _ _ _ _ c.mark_table.ensures _ c.in-Refused-mark_table.is;
+      text_unchanged = (c.mark_table.ensures.kept, c.mark_table.ensures.alone);
+    }
 
 pub returns-in-Rows : goal.returns-in-Rows
 returns-in-Rows c =
@@ -67,6 +67,6 @@ returns-in-Rows c =
     let passed : PassedBy (are_sets c.args.sets.now) (record { columns = c.args.columns.now; rows = c.args.rows.now; list = c.args.sets.now; condition = c.args.condition.now; text = c.args.text.now; out = c.args.out.now; used = c.args.used }) = table_passed _ _ _ _ _ _ (passed_table) in
     let passed_sets : SetsFor (record { columns = c.args.columns.now; rows = c.args.rows.now; list = c.args.sets.now; condition = c.args.condition.now; text = c.args.text.now; out = c.args.out.now; used = c.args.used }) ≡ never = told_sound _ _ c.in_default-wrong.is (c.check_sets-wrong.ensures _ (stored_length (record { columns = c.args.columns.now; rows = c.args.rows.now; list = c.args.sets.now; condition = c.args.condition.now; text = c.args.text.now; out = c.args.out.now; used = c.args.used }) (passed))) in
     record {
-    update_is = update_written (record { columns = c.args.columns.now; rows = c.args.rows.now; list = c.args.sets.now; condition = c.args.condition.now; text = c.args.text.now; out = c.args.out.now; used = c.args.used }) passed_table passed_sets _ _ _ _ c.mark_table.ensures _ c.in-Rows.is _ _ c.write_all.ensures;
-    text_unchanged = (c.mark_table.ensures.kept, c.mark_table.ensures.alone);
-  }
+      update_is = update_written (record { columns = c.args.columns.now; rows = c.args.rows.now; list = c.args.sets.now; condition = c.args.condition.now; text = c.args.text.now; out = c.args.out.now; used = c.args.used }) passed_table passed_sets _ _ _ _ c.mark_table.ensures _ c.in-Rows.is _ _ c.write_all.ensures;
+      text_unchanged = (c.mark_table.ensures.kept, c.mark_table.ensures.alone);
+    }

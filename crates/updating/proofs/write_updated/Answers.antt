@@ -1,6 +1,5 @@
 -- `updating::write_updated` meets its contract. The loop's invariant: writing what is left at the place reached gives the result. Assumes nothing.
-use mathlib.Core.Bool.{true}
-use Prim.Native.Nat.{◌+◌, ◌-◌, ◌*◌, ◌≤◌}
+use Prim.Native.Nat.{◌+◌, ◌*◌, ◌≤◌}
 use native.Mathlib.Omega.{arith}
 use lib.ListN.{length}
 use Rattle.marking.proofs.Marking.{row_inside}
