@@ -9,8 +9,6 @@ use Rattle.conditions.proofs.NodeKind.{node_low}
 use Rattle.conditions.proofs.Descent.{in_table, deep, sound_one, sound_two}
 use Rattle.conditions.proofs.Walk.{leaf_sound, leaf_answers, one_asks, one_refused, one_answers, left_asks, left_refused, left_decided, right_asks, right_refused, join_asks, two_answers, one_lies, left_lies, two_lies}
 use Rattle.conditions.proofs.Lying.{among_refusals, lies_refused, lies_leaf}
-use borrow.Fn.PlainCycle.{is}
-use Rattle.conditions.proofs.evaluate.Reads as evaluate
 use Rattle.conditions.proofs.+evaluate_operand.Goals as goal
 
 pub evaluate-offset_bounds-nodes-k : goal.evaluate-offset_bounds-nodes-k
@@ -33,9 +31,9 @@ evaluate-operand-a-requires t c = (omega (arith, c.decreases, deep _ _ _ _ _ c.r
 
 pub evaluate-returns-in_default : goal.evaluate-returns-in_default
 evaluate-returns-in_default t c = record {
-    means = one_refused _ _ _ _ _ _ _ _ c.requires _ (sym c.node_of.ensures ∙ c.in-One.is) _ _ (among_refusals c.operand-a.result c.in_default.not-Gave) c.operand-a.ensures.means;
-    lies = lies_refused c.args.top (node_of (get_or c.args.nodes.now c.args.k 0)) c.args.row.now c.operand-a.result (among_refusals c.operand-a.result c.in_default.not-Gave);
-  }
+  means = one_refused _ _ _ _ _ _ _ _ c.requires _ (sym c.node_of.ensures ∙ c.in-One.is) _ _ (among_refusals c.operand-a.result c.in_default.not-Gave) c.operand-a.ensures.means;
+  lies = lies_refused c.args.top (node_of (get_or c.args.nodes.now c.args.k 0)) c.args.row.now c.operand-a.result (among_refusals c.operand-a.result c.in_default.not-Gave);
+}
 
 pub evaluate-unary-requires : goal.evaluate-unary-requires
 evaluate-unary-requires t c = (sound_one _ _ _ _ _ c.requires.sound (sym c.node_of.ensures ∙ c.in-One.is)).known
@@ -51,15 +49,15 @@ evaluate-operand-a-requires-in-Two t c = (omega (arith, c.decreases, deep _ _ _ 
 
 pub evaluate-returns-in_default-a : goal.evaluate-returns-in_default-a
 evaluate-returns-in_default-a t c = record {
-    means = left_refused _ _ _ _ _ _ _ _ c.requires _ _ (sym c.node_of.ensures ∙ c.in-Two.is) _ _ (among_refusals c.operand-a-in-Two.result c.in_default-a.not-Gave) c.operand-a-in-Two.ensures.means;
-    lies = lies_refused c.args.top (node_of (get_or c.args.nodes.now c.args.k 0)) c.args.row.now c.operand-a-in-Two.result (among_refusals c.operand-a-in-Two.result c.in_default-a.not-Gave);
-  }
+  means = left_refused _ _ _ _ _ _ _ _ c.requires _ _ (sym c.node_of.ensures ∙ c.in-Two.is) _ _ (among_refusals c.operand-a-in-Two.result c.in_default-a.not-Gave) c.operand-a-in-Two.ensures.means;
+  lies = lies_refused c.args.top (node_of (get_or c.args.nodes.now c.args.k 0)) c.args.row.now c.operand-a-in-Two.result (among_refusals c.operand-a-in-Two.result c.in_default-a.not-Gave);
+}
 
 pub evaluate-returns-then-decided : goal.evaluate-returns-then-decided
 evaluate-returns-then-decided t c = record {
-    means = left_decided _ _ _ _ _ _ _ _ c.requires _ _ (sym c.node_of.ensures ∙ c.in-Two.is) _ _ _ (rw c.in-Gave-a.is at c.operand-a-in-Two.ensures.means) c.operand-a-in-Two.auto.text _ c.decided.ensures _ _ c.if-decided.true c.truth.ensures c.flag.ensures;
-    lies = left_lies _ _ _ _ _ _ _ _ c.requires _ _ (sym c.node_of.ensures ∙ c.in-Two.is) _ _ _ (rw c.in-Gave-a.is at c.operand-a-in-Two.ensures.means) c.operand-a-in-Two.auto.text _ c.decided.ensures _ _ c.flag.ensures;
-  }
+  means = left_decided _ _ _ _ _ _ _ _ c.requires _ _ (sym c.node_of.ensures ∙ c.in-Two.is) _ _ _ (rw c.in-Gave-a.is at c.operand-a-in-Two.ensures.means) c.operand-a-in-Two.auto.text _ c.decided.ensures _ _ c.if-decided.true c.truth.ensures c.flag.ensures;
+  lies = left_lies _ _ _ _ _ _ _ _ c.requires _ _ (sym c.node_of.ensures ∙ c.in-Two.is) _ _ _ (rw c.in-Gave-a.is at c.operand-a-in-Two.ensures.means) c.operand-a-in-Two.auto.text _ c.decided.ensures _ _ c.flag.ensures;
+}
 
 pub evaluate-overflow_sub-depth-in-Two-2 : goal.evaluate-overflow_sub-depth-in-Two-2
 evaluate-overflow_sub-depth-in-Two-2 t c = deep _ _ _ _ _ c.requires.sound
@@ -69,30 +67,30 @@ evaluate-operand-b-requires t c = (omega (arith, c.decreases, deep _ _ _ _ _ c.r
 
 pub evaluate-returns-in_default-b : goal.evaluate-returns-in_default-b
 evaluate-returns-in_default-b t c = record {
-    means = right_refused _ _ _ _ _ _ _ _ c.requires _ _ (sym c.node_of.ensures ∙ c.in-Two.is) _ _ _ (rw c.in-Gave-a.is at c.operand-a-in-Two.ensures.means) c.operand-a-in-Two.auto.text _ c.decided.ensures c.if-decided.false _ _ c.operand-b.ensures.means (among_refusals c.operand-b.result c.in_default-b.not-Gave);
-    lies = lies_refused c.args.top (node_of (get_or c.args.nodes.now c.args.k 0)) c.args.row.now c.operand-b.result (among_refusals c.operand-b.result c.in_default-b.not-Gave);
-  }
+  means = right_refused _ _ _ _ _ _ _ _ c.requires _ _ (sym c.node_of.ensures ∙ c.in-Two.is) _ _ _ (rw c.in-Gave-a.is at c.operand-a-in-Two.ensures.means) c.operand-a-in-Two.auto.text _ c.decided.ensures c.if-decided.false _ _ c.operand-b.ensures.means (among_refusals c.operand-b.result c.in_default-b.not-Gave);
+  lies = lies_refused c.args.top (node_of (get_or c.args.nodes.now c.args.k 0)) c.args.row.now c.operand-b.result (among_refusals c.operand-b.result c.in_default-b.not-Gave);
+}
 
 pub evaluate-apply-requires : goal.evaluate-apply-requires
 evaluate-apply-requires t c = join_asks _ _ _ _ _ _ _ _ c.requires _ _ (sym c.node_of.ensures ∙ c.in-Two.is) _ _ _ (rw c.in-Gave-a.is at c.operand-a-in-Two.ensures.means) c.operand-a-in-Two.auto.text _ c.decided.ensures c.if-decided.false _ _ c.operand-b.ensures.means _ _ c.in-Gave-b.is c.operand-b.auto.text
 
 pub evaluate-returns-in-Leaf : goal.evaluate-returns-in-Leaf
 evaluate-returns-in-Leaf t c = record {
-    means = leaf_answers _ _ _ _ _ _ _ _ c.requires _ _ (sym c.node_of.ensures ∙ c.in-Leaf.is) c.leaf.ensures;
-    lies = lies_leaf c.args.top _ _ _ _ _ c.args.top (sym c.node_of.ensures ∙ c.in-Leaf.is) c.leaf.ensures;
-  }
+  means = leaf_answers _ _ _ _ _ _ _ _ c.requires _ _ (sym c.node_of.ensures ∙ c.in-Leaf.is) c.leaf.ensures;
+  lies = lies_leaf c.args.top _ _ _ _ _ c.args.top (sym c.node_of.ensures ∙ c.in-Leaf.is) c.leaf.ensures;
+}
 
 pub evaluate-returns-in-Gave : goal.evaluate-returns-in-Gave
 evaluate-returns-in-Gave t c = record {
-    means = one_answers _ _ _ _ _ _ _ _ c.requires _ (sym c.node_of.ensures ∙ c.in-One.is) _ _ _ _ (rw c.in-Gave.is at c.operand-a.ensures.means) c.unary.ensures c.operand-a.auto.text;
-    lies = one_lies _ _ _ _ _ _ _ _ c.requires _ (sym c.node_of.ensures ∙ c.in-One.is) _ _ _ c.unary.result (rw c.in-Gave.is at c.operand-a.ensures.means) c.unary.ensures c.operand-a.auto.text;
-  }
+  means = one_answers _ _ _ _ _ _ _ _ c.requires _ (sym c.node_of.ensures ∙ c.in-One.is) _ _ _ _ (rw c.in-Gave.is at c.operand-a.ensures.means) c.unary.ensures c.operand-a.auto.text;
+  lies = one_lies _ _ _ _ _ _ _ _ c.requires _ (sym c.node_of.ensures ∙ c.in-One.is) _ _ _ c.unary.result (rw c.in-Gave.is at c.operand-a.ensures.means) c.unary.ensures c.operand-a.auto.text;
+}
 
 pub evaluate-returns-in-Gave-b : goal.evaluate-returns-in-Gave-b
 evaluate-returns-in-Gave-b t c = record {
-    means = two_answers _ _ _ _ _ _ _ _ c.requires _ _ (sym c.node_of.ensures ∙ c.in-Two.is) _ _ _ (rw c.in-Gave-a.is at c.operand-a-in-Two.ensures.means) c.operand-a-in-Two.auto.text _ c.decided.ensures c.if-decided.false _ _ c.operand-b.ensures.means _ _ c.in-Gave-b.is c.operand-b.auto.text _ _ c.apply.ensures;
-    lies = two_lies _ _ _ _ _ _ _ _ c.requires _ _ (sym c.node_of.ensures ∙ c.in-Two.is) _ _ _ (rw c.in-Gave-a.is at c.operand-a-in-Two.ensures.means) c.operand-a-in-Two.auto.text _ c.decided.ensures c.if-decided.false _ _ c.operand-b.ensures.means _ _ c.in-Gave-b.is c.operand-b.auto.text _ c.apply.result c.apply.ensures;
-  }
+  means = two_answers _ _ _ _ _ _ _ _ c.requires _ _ (sym c.node_of.ensures ∙ c.in-Two.is) _ _ _ (rw c.in-Gave-a.is at c.operand-a-in-Two.ensures.means) c.operand-a-in-Two.auto.text _ c.decided.ensures c.if-decided.false _ _ c.operand-b.ensures.means _ _ c.in-Gave-b.is c.operand-b.auto.text _ _ c.apply.ensures;
+  lies = two_lies _ _ _ _ _ _ _ _ c.requires _ _ (sym c.node_of.ensures ∙ c.in-Two.is) _ _ _ (rw c.in-Gave-a.is at c.operand-a-in-Two.ensures.means) c.operand-a-in-Two.auto.text _ c.decided.ensures c.if-decided.false _ _ c.operand-b.ensures.means _ _ c.in-Gave-b.is c.operand-b.auto.text _ c.apply.result c.apply.ensures;
+}
 
 pub operand-offset_bounds-nodes-k : goal.operand-offset_bounds-nodes-k
 operand-offset_bounds-nodes-k t c = scaled_Fits _ _ 8 (in_table _ _ _ _ _ c.requires.sound) c.well_formed.1.0.1
@@ -105,9 +103,9 @@ operand-leaf-requires t c = leaf_sound _ _ _ _ _ _ _ _ c.requires _ (node_low _ 
 
 pub operand-returns-then-word-lt1152921504606846976 : goal.operand-returns-then-word-lt1152921504606846976
 operand-returns-then-word-lt1152921504606846976 t c = record {
-    means = leaf_answers _ _ _ _ _ _ _ _ c.requires _ _ (node_low _ c.if-word-lt1152921504606846976.true) c.leaf.ensures;
-    lies = lies_leaf c.args.top _ _ _ _ _ c.args.top (node_low _ c.if-word-lt1152921504606846976.true) c.leaf.ensures;
-  }
+  means = leaf_answers _ _ _ _ _ _ _ _ c.requires _ _ (node_low _ c.if-word-lt1152921504606846976.true) c.leaf.ensures;
+  lies = lies_leaf c.args.top _ _ _ _ _ c.args.top (node_low _ c.if-word-lt1152921504606846976.true) c.leaf.ensures;
+}
 
 pub operand-evaluate-requires : goal.operand-evaluate-requires
 operand-evaluate-requires t c = (omega (arith, c.decreases), c.requires)

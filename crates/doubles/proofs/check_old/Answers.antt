@@ -1,6 +1,5 @@
 -- `doubles::check_old` meets its contract. The loop's invariant: what stops the rows is what stops those that are left. Assumes nothing.
 use mathlib.Core.Path.{sym, ◌∙◌}
-use Prim.Native.Nat.{◌-◌}
 use native.Mathlib.Nat.{sub-zero}
 use native.Mathlib.Omega.{arith}
 use Rattle.sorting.proofs.Reading.{row_ends}

@@ -1,7 +1,6 @@
 -- `doubles::equal_row` meets its contract. The outer loop's invariant: no row that was passed has the key. The inner one's: what is known of the row
 -- is what is left of its columns. Assumes nothing.
 use mathlib.Core.Path.{refl}
-use Prim.Native.Nat.{◌-◌}
 use native.Mathlib.Omega.{arith}
 use borrow.Author.Count.{below_none}
 use Rattle.doubles.proofs.Searching.{cell_there, all_equal, passed, next_column}

@@ -1,7 +1,6 @@
 -- `keys::compare_keys` meets its contract. The loop's invariant: the order of the rows is the order of what is left of them.
 -- Assumes nothing.
 use mathlib.Core.Path.{refl, sym, ◌∙◌}
-use Prim.Native.Nat.{◌-◌}
 use Rattle.keys.proofs.Turns.{leaves, goes_on, end}
 use borrow.Author.Rules.{rules}
 use Rattle.keys.proofs.compare_keys.Goals as goal

@@ -7,8 +7,6 @@ use Rattle.conditions.proofs.NodeKind.{node_leaf, node_one, node_two}
 use Rattle.conditions.proofs.Descent.{in_table, deep, sound_one, sound_two}
 use Rattle.quick.proofs.Walking.{leaf_sound, leaf_found, one_stands, one_found, left_stands, right_stands, left_found, two_found}
 use Rattle.wordwise.proofs.Settling.{flagged, both_truth}
-use borrow.Fn.PlainCycle.{is}
-use Rattle.quick.proofs.word_of.Reads as word_of
 use Rattle.quick.proofs.+operand_word_of.Goals as goal
 
 pub operand-shallow-word-requires : goal.operand-shallow-word-requires

@@ -11,6 +11,6 @@ word_of-word-requires c = stands _ _ _ _ _ _ _ _ c.requires
 
 pub returns : goal.returns
 returns c = record {
-    means = (found_answers _ _ _ _ _ _ _ _ c.requires _ (c.word_of-word.ensures c.if-word.false)).0;
-    lies = (found_answers _ _ _ _ _ _ _ _ c.requires _ (c.word_of-word.ensures c.if-word.false)).1;
-  }
+  means = (found_answers _ _ _ _ _ _ _ _ c.requires _ (c.word_of-word.ensures c.if-word.false)).0;
+  lies = (found_answers _ _ _ _ _ _ _ _ c.requires _ (c.word_of-word.ensures c.if-word.false)).1;
+}

@@ -4,7 +4,6 @@ use native.Mathlib.Omega.{arith}
 use mathlib.Core.Path.{sym, ◌∙◌}
 use Rattle.conditions.proofs.Walk.{depth_left}
 use Rattle.shortening.proofs.Walking.{leaf_space, leaf_early, leaf_gives, one_below, one_asks, one_refused, one_requires, one_gives, two_below, left_asks, left_refused, right_asks, right_refused, two_asks, two_gives}
-use borrow.Fn.PlainCycle.{is}
 use Rattle.shortening.proofs.+fold_node.Goals as goal
 
 pub offset_bounds-nodes-k : goal.offset_bounds-nodes-k

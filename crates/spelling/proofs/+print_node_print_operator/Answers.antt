@@ -7,7 +7,6 @@ use borrow.Author.Rules.{scaled_Fits}
 use Rattle.signs.proofs.Lengths.{precedence_small}
 use Rattle.conditions.proofs.Walk.{depth_left}
 use Rattle.spelling.proofs.Walking.{leaf_asks, leaf_puts, one_below, one_room, one_asks, one_puts, two_below, open_room, left_asks, sign_room, right_asks, close_room, operator_puts}
-use borrow.Fn.PlainCycle.{is}
 use Rattle.spelling.proofs.+print_node_print_operator.Goals as goal
 
 pub print_node-offset_bounds-nodes-k : goal.print_node-offset_bounds-nodes-k
