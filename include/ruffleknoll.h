@@ -1,4 +1,4 @@
-/* The calls of Ruffleknoll, for C and for Rust on x86-64 Linux. `rt staticlib ruffleknoll` proves them and writes
+/* The calls of Ruffleknoll, for C and for Rust on x86-64 Linux. `tools/staticlib` proves them and writes
  * target/staticlib/libruffleknoll.a; it needs memcpy and memset of the program that links it, and nothing else.
  *
  * Every call answers for any bytes, any numbers and any lengths, and keeps nothing between calls.
