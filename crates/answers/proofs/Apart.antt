@@ -24,16 +24,9 @@ use Rattle.refusals.specs.declared.Refusal.TheVariants.{
   NotPrintable,
 }
 use Rattle.refusals.proofs.Unique.{one_refusal}
-use Rattle.writing.specs.declared.Written.{Written}
-use Rattle.writing.specs.declared.Written.TheVariants as written
-use Rattle.evaluation.specs.declared.Evaluated.{Evaluated}
-use Rattle.evaluation.specs.declared.Evaluated.TheVariants as evaluated
-use Rattle.folding.specs.declared.Shortened.{Shortened}
-use Rattle.folding.specs.declared.Shortened.TheVariants as shortened
-use Rattle.naming.specs.declared.Joined.{Joined}
-use Rattle.naming.specs.declared.Joined.TheVariants as joined
-use Rattle.answers.specs.Answer.{refused_with, accepted, of_written, of_evaluated, of_shortened, of_joined}
+use Rattle.answers.specs.Answer.{refused_with, accepted, of_written, of_evaluated, of_moved, of_shortened, of_joined}
 use Rattle.answers.specs.declared.Answer.{Answer}
+use Rattle.std.specs.Prelude.{Result, Ok, Err}
 
 -- no refusal has the number 0
 pub some_number : (r : Refusal) → 0 < (told r).number
@@ -76,30 +69,30 @@ module _ (used : ℕ) where
   unfolding number_of place_of
   alike r s e = one_refusal r s (ap₂ stop (ap number_of e) (ap place_of e))
 
-  pub written_apart : (a b : Written) → of_written used a ≡ of_written used b → a ≡ b
+  pub written_apart : (a b : Result ℕ Refusal) → of_written used a ≡ of_written used b → a ≡ b
   unfolding value_of
-  written_apart (written.Count n) (written.Count n') e = ap written.Count (ap value_of e)
-  written_apart (written.Count n) (written.Refused s) e = absurd (apart s n used e)
-  written_apart (written.Refused r) (written.Count n') e = absurd (apart r n' used (sym e))
-  written_apart (written.Refused r) (written.Refused s) e = ap written.Refused (alike r s e)
+  written_apart (Ok n) (Ok n') e = ap Ok (ap value_of e)
+  written_apart (Ok n) (Err s) e = absurd (apart s n used e)
+  written_apart (Err r) (Ok n') e = absurd (apart r n' used (sym e))
+  written_apart (Err r) (Err s) e = ap Err (alike r s e)
 
-  pub evaluated_apart : (a b : Evaluated) → of_evaluated used a ≡ of_evaluated used b → a ≡ b
+  pub evaluated_apart : (a b : Result ℕ Refusal) → of_evaluated used a ≡ of_evaluated used b → a ≡ b
   unfolding value_of
-  evaluated_apart (evaluated.Cell n) (evaluated.Cell n') e = ap evaluated.Cell (ap value_of e)
-  evaluated_apart (evaluated.Cell n) (evaluated.Refused s) e = absurd (apart s n used e)
-  evaluated_apart (evaluated.Refused r) (evaluated.Cell n') e = absurd (apart r n' used (sym e))
-  evaluated_apart (evaluated.Refused r) (evaluated.Refused s) e = ap evaluated.Refused (alike r s e)
+  evaluated_apart (Ok n) (Ok n') e = ap Ok (ap value_of e)
+  evaluated_apart (Ok n) (Err s) e = absurd (apart s n used e)
+  evaluated_apart (Err r) (Ok n') e = absurd (apart r n' used (sym e))
+  evaluated_apart (Err r) (Err s) e = ap Err (alike r s e)
 
-  pub shortened_apart : (a b : Shortened) → of_shortened used a ≡ of_shortened used b → a ≡ b
+  -- two calls that move the mark
+  moved_apart : (a b : Result (ℕ × ℕ) Refusal) → of_moved used a ≡ of_moved used b → a ≡ b
   unfolding value_of used_of
-  shortened_apart (shortened.Bytes n k) (shortened.Bytes n' k') e = ap₂ shortened.Bytes (ap value_of e) (ap used_of e)
-  shortened_apart (shortened.Bytes n k) (shortened.Refused s) e = absurd (apart s n k e)
-  shortened_apart (shortened.Refused r) (shortened.Bytes n' k') e = absurd (apart r n' k' (sym e))
-  shortened_apart (shortened.Refused r) (shortened.Refused s) e = ap shortened.Refused (alike r s e)
+  moved_apart (Ok (n, k)) (Ok (n', k')) e = ap₂ (λ x y. Ok (x, y)) (ap value_of e) (ap used_of e)
+  moved_apart (Ok (n, k)) (Err s) e = absurd (apart s n k e)
+  moved_apart (Err r) (Ok (n', k')) e = absurd (apart r n' k' (sym e))
+  moved_apart (Err r) (Err s) e = ap Err (alike r s e)
 
-  pub joined_apart : (a b : Joined) → of_joined used a ≡ of_joined used b → a ≡ b
-  unfolding value_of used_of
-  joined_apart (joined.Words n k) (joined.Words n' k') e = ap₂ joined.Words (ap value_of e) (ap used_of e)
-  joined_apart (joined.Words n k) (joined.Refused s) e = absurd (apart s n k e)
-  joined_apart (joined.Refused r) (joined.Words n' k') e = absurd (apart r n' k' (sym e))
-  joined_apart (joined.Refused r) (joined.Refused s) e = ap joined.Refused (alike r s e)
+  pub shortened_apart : (a b : Result (ℕ × ℕ) Refusal) → of_shortened used a ≡ of_shortened used b → a ≡ b
+  shortened_apart = moved_apart
+
+  pub joined_apart : (a b : Result (ℕ × ℕ) Refusal) → of_joined used a ≡ of_joined used b → a ≡ b
+  joined_apart = moved_apart

@@ -5,8 +5,8 @@ use Prim.Native.Nat.{ℕ}
 use lib.ListN.{length, take}
 use Rattle.refusals.specs.Stop.{Stop, never, stop, stop_of, unless_stopped}
 use Rattle.refusals.specs.declared.Refusal.{Refusal}
-use Rattle.slices.specs.declared.Ordering.{Ordering}
-use Rattle.slices.specs.declared.Ordering.TheVariants.{Less, Equal, Greater}
+use Rattle.std.specs.declared.cmp.Ordering.{Ordering}
+use Rattle.std.specs.declared.cmp.Ordering.TheVariants.{Less, Equal, Greater}
 use Rattle.keys.specs.Key.{key_order, pick, rows_stop, earlier_of}
 use Rattle.answers.specs.Earlier.{which_of, which_earlier, handed}
 

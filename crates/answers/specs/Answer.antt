@@ -3,15 +3,8 @@
 use Rattle.std.specs.Prelude.{ℕ}
 use Rattle.refusals.specs.Told.{told}
 use Rattle.refusals.specs.declared.Refusal.{Refusal}
-use Rattle.writing.specs.declared.Written.{Written}
-use Rattle.writing.specs.declared.Written.TheVariants as written
-use Rattle.evaluation.specs.declared.Evaluated.{Evaluated}
-use Rattle.evaluation.specs.declared.Evaluated.TheVariants as evaluated
-use Rattle.folding.specs.declared.Shortened.{Shortened}
-use Rattle.folding.specs.declared.Shortened.TheVariants as shortened
-use Rattle.naming.specs.declared.Joined.{Joined}
-use Rattle.naming.specs.declared.Joined.TheVariants as joined
 use Rattle.answers.specs.declared.Answer.{Answer}
+use Rattle.std.specs.Prelude.{Result, Ok, Err}
 
 -- an accepted call: number and place are 0
 abbrev pub accepted : ℕ → ℕ → Answer
@@ -22,21 +15,24 @@ abbrev pub refused_with : Refusal → ℕ → Answer
 refused_with r used = record { number = (told r).number; place = (told r).place; value = 0; used = used }
 
 -- bytes or rows written; the mark stays
-abbrev pub of_written : ℕ → Written → Answer
-of_written used (written.Count n) = accepted n used
-of_written used (written.Refused r) = refused_with r used
+abbrev pub of_written : ℕ → Result ℕ Refusal → Answer
+of_written used (Ok n) = accepted n used
+of_written used (Err r) = refused_with r used
 
 -- the cell's word; the mark stays
-abbrev pub of_evaluated : ℕ → Evaluated → Answer
-of_evaluated used (evaluated.Cell word) = accepted word used
-of_evaluated used (evaluated.Refused r) = refused_with r used
+abbrev pub of_evaluated : ℕ → Result ℕ Refusal → Answer
+of_evaluated used (Ok word) = accepted word used
+of_evaluated used (Err r) = refused_with r used
 
--- bytes written and the mark after the texts that folding appended
-abbrev pub of_shortened : ℕ → Shortened → Answer
-of_shortened used (shortened.Bytes n mark) = accepted n mark
-of_shortened used (shortened.Refused r) = refused_with r used
+-- what was written and the mark after what was appended to the text
+abbrev pub of_moved : ℕ → Result (ℕ × ℕ) Refusal → Answer
+of_moved used (Ok (n, mark)) = accepted n mark
+of_moved used (Err r) = refused_with r used
 
--- words written and the mark after the names that were appended
-abbrev pub of_joined : ℕ → Joined → Answer
-of_joined used (joined.Words n mark) = accepted n mark
-of_joined used (joined.Refused r) = refused_with r used
+-- of `fold`: bytes written, and the mark after the texts that folding appended
+abbrev pub of_shortened : ℕ → Result (ℕ × ℕ) Refusal → Answer
+of_shortened = of_moved
+
+-- of the calls that join column tables: words written, and the mark after the names that were appended
+abbrev pub of_joined : ℕ → Result (ℕ × ℕ) Refusal → Answer
+of_joined = of_moved

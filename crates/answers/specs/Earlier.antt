@@ -1,8 +1,8 @@
 -- Which of two rows `earlier` hands back, as a number. Assumes nothing: these are definitions.
 use Rattle.std.specs.Prelude.{ℕ, zero, suc, List, [], length, take}
 use Rattle.refusals.specs.Stop.{unless_stopped}
-use Rattle.slices.specs.declared.Ordering.{Ordering}
-use Rattle.slices.specs.declared.Ordering.TheVariants.{Less, Equal, Greater}
+use Rattle.std.specs.declared.cmp.Ordering.{Ordering}
+use Rattle.std.specs.declared.cmp.Ordering.TheVariants.{Less, Equal, Greater}
 use Rattle.keys.specs.Key.{key_order, rows_stop}
 
 -- the first row is 1, also where the keys are equal; the second is 2

@@ -3,17 +3,13 @@
 
 ghost use Rattle.std.specs.Prelude.{◌≡◌};
 ghost use Rattle.keys.specs.Key.{earlier_of};
-ghost use Rattle.answers.specs.Answer.{refused_with, of_written, of_evaluated, of_shortened, of_joined};
+ghost use Rattle.answers.specs.Answer.{accepted, refused_with, of_written, of_evaluated, of_moved};
 ghost use Rattle.answers.specs.Row.{PartIs};
 ghost use Rattle.answers.specs.Earlier.{which_of, which_earlier, handed};
 
 use columns::RowNumber;
-use evaluation::Evaluated;
-use folding::Shortened;
-use naming::Joined;
-use refusals::{Checked, Refusal};
-use slices::Ordering;
-use writing::Written;
+use refusals::Refusal;
+use std::cmp::Ordering;
 
 // The refusal's number and place, both 0 where the call was accepted; its value, 0 where it was refused; the mark after it.
 #[repr(C)]
@@ -45,63 +41,45 @@ fn refused(r: Refusal, used: usize) -> Answer
     }
 }
 
-// The answer of a call that writes and leaves the mark alone.
-pub fn of_written(w: Written, used: usize) -> Answer
-    ensures { result ≡ of_written used w }
+// An accepted call: its value, and the mark after it.
+fn accepted(value: u64, used: usize) -> Answer
+    ensures { result ≡ accepted value used }
 {
-    match w {
-        Written::Refused(r) => refused(r, used),
-        Written::Count(n) => Answer {
-            number: 0,
-            place: 0,
-            value: n as u64,
-            used: used as u64,
-        },
+    Answer {
+        number: 0,
+        place: 0,
+        value,
+        used: used as u64,
+    }
+}
+
+// The answer of a call that writes and leaves the mark alone.
+pub fn of_written(written: Result<usize, Refusal>, used: usize) -> Answer
+    ensures { result ≡ of_written used written }
+{
+    match written {
+        Err(r) => refused(r, used),
+        Ok(n) => accepted(n as u64, used),
     }
 }
 
 // The answer of `evaluate`.
-pub fn of_evaluated(e: Evaluated, used: usize) -> Answer
-    ensures { result ≡ of_evaluated used e }
+pub fn of_evaluated(evaluated: Result<u64, Refusal>, used: usize) -> Answer
+    ensures { result ≡ of_evaluated used evaluated }
 {
-    match e {
-        Evaluated::Refused(r) => refused(r, used),
-        Evaluated::Cell(word) => Answer {
-            number: 0,
-            place: 0,
-            value: word,
-            used: used as u64,
-        },
+    match evaluated {
+        Err(r) => refused(r, used),
+        Ok(word) => accepted(word, used),
     }
 }
 
-// The answer of `fold`, which moves the mark.
-pub fn of_shortened(s: Shortened, used: usize) -> Answer
-    ensures { result ≡ of_shortened used s }
+// The answer of the calls that move the mark, `fold` and those that join column tables.
+pub fn of_moved(moved: Result<(usize, usize), Refusal>, used: usize) -> Answer
+    ensures { result ≡ of_moved used moved }
 {
-    match s {
-        Shortened::Refused(r) => refused(r, used),
-        Shortened::Bytes(n, mark) => Answer {
-            number: 0,
-            place: 0,
-            value: n as u64,
-            used: mark as u64,
-        },
-    }
-}
-
-// The answer of the calls that join column tables, which move the mark.
-pub fn of_joined(j: Joined, used: usize) -> Answer
-    ensures { result ≡ of_joined used j }
-{
-    match j {
-        Joined::Refused(r) => refused(r, used),
-        Joined::Words(n, mark) => Answer {
-            number: 0,
-            place: 0,
-            value: n as u64,
-            used: mark as u64,
-        },
+    match moved {
+        Err(r) => refused(r, used),
+        Ok((n, mark)) => accepted(n as u64, mark),
     }
 }
 
@@ -127,9 +105,8 @@ fn which_of(order: Ordering) -> u64
     ensures { result ≡ which_of order }
 {
     match order {
-        Ordering::Less => 1,
-        Ordering::Equal => 1,
         Ordering::Greater => 2,
+        _ => 1,
     }
 }
 
@@ -144,8 +121,7 @@ pub fn which_earlier(
     ensures value { result ≡ which_earlier columns.now text.now used first.now second.now }
     ensures second_value { earlier_of columns.now text.now used first.now second.now ≡ handed result first.now second.now }
 {
-    let rows = keys::check_rows(columns, text.len(), used, first, second);
-    let Checked::Sound = rows else {
+    let Ok(()) = keys::check_rows(columns, text.len(), used, first, second) else {
         return 0;
     };
     which_of(keys::compare_keys(columns, &text[..used], first, second))

@@ -9,7 +9,6 @@ use lib.ListN.{length, take, get_or}
 use Rattle.refusals.specs.Stop.{Stop, never, stop}
 use Rattle.slices.proofs.Splice.{front_splice}
 use Rattle.writing.specs.Writing.{WrittenIs}
-use Rattle.writing.specs.declared.Written.TheVariants.{Count}
 use Rattle.cells.specs.Cell.{WellFormed}
 use Rattle.cells.proofs.Stops.{never_stops, stop_never}
 use Rattle.checks.specs.Check.{cells_stop}
@@ -24,7 +23,6 @@ use Rattle.postfix.specs.Postfix.{bytes_of}
 use Rattle.postfix.proofs.Readable.{Readable}
 use Rattle.postfix.proofs.Reading.{readable_parsed, parsed_readable}
 use Rattle.evaluation.specs.Evaluation.{at_zero, stops, evaluation, Says, EvaluatedIs}
-use Rattle.evaluation.specs.declared.Evaluated.{Evaluated}
 use Rattle.evaluation.proofs.Narrowing.{Narrow}
 use Rattle.evaluation.proofs.Stopping.{row_right, at_none}
 use Rattle.numbering.specs.Number.{bind_leaf, names_stop}
@@ -33,6 +31,8 @@ use Rattle.binding.proofs.Walking.{size_map}
 use Rattle.binding.proofs.Stopping.{room_there, columns_count, accepted_before, accepted_names}
 use Rattle.binding.proofs.Meaning.{bind_means}
 use Rattle.binding.proofs.Numbered.{numbers_never, height_map, bound_tree}
+use Rattle.std.specs.Prelude.{Result, Ok}
+use Rattle.refusals.specs.declared.Refusal.{Refusal}
 
 -- well-formed cells are not refused
 cells_never : (used p : ℕ) (row : List ℕ) → ((i : ℕ) → i < length row → WellFormed used (get_or row i 0)) → cells_stop used p row ≡ never
@@ -88,7 +88,7 @@ module _ (R : Rules) (b columns stored : List ℕ) (used : ℕ) (bytes : (i : �
     bound_evaluates = rw (f, nothing_stops, read_again) (ap at_zero (bind_means R (row_of stored row) stored columns count.1 0 t none_missing))
 
 -- what an accepted call has written
-written : (before after result : List ℕ) (n : ℕ) (s : Stop) → WrittenIs before after (Count n) s (length result) result → (s ≡ never) × (take n after ≡ result)
+written : (before after result : List ℕ) (n : ℕ) (s : Stop) → WrittenIs before after (Ok n) s (length result) result → (s ≡ never) × (take n after ≡ result)
 written before after result n never w =
     let q : n ≡ 0 + length result = (let h = w.says in cc (zero-add (length result))) in
     (refl, ap (λ m. take m after) q ∙ ap (take (0 + length result)) w.output ∙ front_splice before 0 result (omega arith))
@@ -96,10 +96,10 @@ written before after result n (stop number place) w = absurd (let h = w.says in 
 
 -- `bind` was accepted; the row is one of its columns, well formed below the mark
 module _ (R : Rules) (b columns text before after : List ℕ) (used n : ℕ) (bytes : (i : ℕ) → get_or b i 0 < 256) (t : Tree ℕ) (f : parsed Named used b ≡ tree t)
-    (binds : BindIs b columns (take used text) (length text) used before after (Count n))
+    (binds : BindIs b columns (take used text) (length text) used before after (Ok n))
     (row : List ℕ) (each : length row + length row ≡ length columns) (sound : RowSound used row) where
   -- `evaluate`, called with the same text on the bytes that were written, answers what the named condition means
-  pub bind_evaluate : (text' : List ℕ) (r : Evaluated) → EvaluatedIs R (take n after) row text text' used r
+  pub bind_evaluate : (text' : List ℕ) (r : Result ℕ Refusal) → EvaluatedIs R (take n after) row text text' used r
       → Says (take n after) row text' used r
       (at_zero (eval R (row_of (take used text) row) (map_tree (by_name (names (take used text) columns) (row_of (take used text) row)) (map_tree (leaf_of (take used text)) t))))
   bind_evaluate text' r h =

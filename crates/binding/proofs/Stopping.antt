@@ -5,30 +5,25 @@ use Prim.Native.Nat.{ℕ, ◌+◌, ◌-◌, ◌≤◌}
 use native.Mathlib.Omega.{arith}
 use lib.ListN.{length, take}
 use lib.Seq.{length-take-le}
-use Rattle.refusals.specs.Told.{told}
 use Rattle.refusals.specs.Stop.{Stop, never, stop_of, or_else}
 use Rattle.refusals.specs.declared.Refusal.{Refusal}
 use Rattle.refusals.proofs.First.{never_both, four_in_a_row}
 use Rattle.writing.specs.Writing.{WrittenIs}
-use Rattle.writing.specs.declared.Written.{Written}
 use Rattle.columns.specs.Column.{columns_stop}
 use Rattle.checks.specs.Check.{room_stop, output_stop}
 use Rattle.checks.proofs.Turns
 use Rattle.conditions.specs.Ast.{Tree}
 use Rattle.nodes.specs.declared.Allowed.TheVariants.{Named}
-use Rattle.forms.specs.Form.{tree, refusal, parsed, form_stop, of_tree}
+use Rattle.forms.specs.Form.{tree, parsed, form_stop, of_tree}
 use Rattle.forms.specs.Held.{Denotes, ScanIs}
-use Rattle.forms.specs.declared.Scanned.{Scanned}
-use Rattle.forms.specs.declared.Scanned.TheVariants.{Table, Denied}
 use Rattle.tables.specs.Table.{is_table, count_stop}
 use Rattle.tables.proofs.Words.{table_counted, count_right}
 use Rattle.numbering.specs.Number.{names_stop}
 use Rattle.binding.specs.Bind.{bind_stop, bound_bytes, BindIs}
 use Rattle.binding.specs.Asked.{before_stop}
 use Rattle.numbering.specs.Walk.{BindAsks, Binds}
-use Rattle.numbering.specs.declared.Part.{Part}
-use Rattle.numbering.specs.declared.Part.TheVariants.{Bound, Refused}
 use Rattle.binding.proofs.Walking.{bound_width}
+use Rattle.std.specs.Prelude.{Result, Ok, Err}
 
 -- a table that is not stopped has 2 to 64 words
 table_bounds : (columns : List ℕ) → count_stop (is_table columns) ≡ never → (2 ≤ length columns) × (length columns ≤ 64)
@@ -49,10 +44,6 @@ module _ (b columns stored : List ℕ) (size used output : ℕ) where
   in_groups : whole ≡ or_else (before_stop columns size used output) later
   in_groups = sym (four_in_a_row (room_stop 32768 size used) (output_stop output) (count_stop (is_table columns)) (columns_stop used 0 columns) later)
 
-  -- a refusal before the condition is the whole's
-  pub before_stops : (r : Refusal) → before_stop columns size used output ≡ stop_of r → bind_stop b columns stored size used output ≡ stop_of r
-  before_stops r e = in_groups ∙ rw e
-
   -- nothing is wrong with the text, the output and the columns
   module _ (e : before_stop columns size used output ≡ never) where
     -- after the room
@@ -67,10 +58,6 @@ module _ (b columns stored : List ℕ) (size used output : ℕ) where
     pub room_there : (size ≤ 65536) × (used + 32768 ≤ size)
     room_there = Turns.room_there 32768 size used (never_both (room_stop 32768 size used) _ e).0
 
-    -- the output has 448 bytes
-    output_long : 448 ≤ output
-    output_long = Turns.output_there output (never_both (output_stop output) _ after_room).0
-
     -- there are 1 to 32 columns
     pub columns_count : (2 ≤ length columns) × (length columns ≤ 64)
     columns_count = table_bounds columns (never_both (count_stop (is_table columns)) _ after_output).0
@@ -82,12 +69,6 @@ module _ (b columns stored : List ℕ) (size used output : ℕ) where
     -- the rest decides
     left : whole ≡ later
     left = in_groups ∙ rw e
-
-    -- the scan's refusal
-    pub form_stops : (nodes : List ℕ) (x : Scanned) → ScanIs used b nodes x (parsed Named used b) → (r : Refusal) → x ≡ Denied r → bind_stop b columns stored size used output ≡ stop_of r
-    form_stops nodes x s r q =
-        let f : parsed Named used b ≡ refusal (told r).number (told r).place = subst (λ y. ScanIs used b nodes y (parsed Named used b)) q s in
-        left ∙ rw f
 
     -- a tree, and then its names
     names_left : (t : Tree ℕ) → parsed Named used b ≡ tree t → whole ≡ or_else (names_stop stored columns 0 t) never
@@ -106,13 +87,12 @@ module _ (b columns stored : List ℕ) (size used output : ℕ) where
 -- a condition's tree stands in the table, and nothing is wrong with the rest
 pub record Tabled (b columns text : List ℕ) (used : ℕ) (before nodes : List ℕ) (n : ℕ) : Type 0 where
   pub passed : before_stop columns (length text) used (length before) ≡ never
-  pub table : ScanIs used b nodes (Table n) (parsed Named used b)
+  pub table : ScanIs used b nodes (Ok n) (parsed Named used b)
   pub long : length nodes ≡ 64
 
 -- the whole condition is bound
 pub record Whole (b columns text : List ℕ) (used : ℕ) (before after : List ℕ) (end : ℕ) : Type 0 where
   pub inside : end ≤ length after
-  pub fits : end ≤ length before
   pub accepted : bind_stop b columns (take used text) (length text) used (length before) ≡ never
   pub bytes : take end after ≡ bound_bytes (take used text) columns (parsed Named used b)
 
@@ -151,22 +131,20 @@ module _ {b columns text : List ℕ} {used : ℕ} {before nodes : List ℕ} {n :
     tree_asks = (t, ready)
 
     -- the walk's answer
-    module _ (after : List ℕ) (r : Part)
+    module _ (after : List ℕ) (r : Result (ℕ × ℕ) Refusal)
         (f : (t : Tree ℕ) → BindAsks (take used text) columns nodes space (n - 1) 16 0 0 t → Binds (take used text) columns space after 0 0 t r) where
       -- a missing name is the whole's refusal
-      pub names_stops : (y : Refusal) → r ≡ Refused y → bind_stop b columns (take used text) (length text) used (length before) ≡ stop_of y
+      pub names_stops : (y : Refusal) → r ≡ Err y → bind_stop b columns (take used text) (length text) used (length before) ≡ stop_of y
       names_stops y g =
           let h : names_stop (take used text) columns 0 t ≡ stop_of y = rw g at (f t ready) in
           stops ∙ rw h
 
       -- else the whole is bound
-      pub bound_whole : (end m : ℕ) → r ≡ Bound end m → length after ≡ length space → Whole b columns text used before after end
+      pub bound_whole : (end m : ℕ) → r ≡ Ok (end, m) → length after ≡ length space → Whole b columns text used before after end
       bound_whole end m g kept =
-          let h : Binds (take used text) columns space after 0 0 t (Bound end m) = rw g at (f t ready) in
-          let few : end ≤ 448 = omega (arith, h.1, bound_width (take used text) columns t, T.table.3, T.table.4) in
+          let h : Binds (take used text) columns space after 0 0 t (Ok (end, m)) = rw g at (f t ready) in
           record {
-            inside = omega arith;
-            fits = omega (arith, output_long b columns [] (length text) used (length before) T.passed);
+            inside = omega (arith, h.1, bound_width (take used text) columns t, T.table.3, T.table.4);
             accepted = stops ∙ rw h.0;
             bytes = h.2 ∙ rw T.table.1;
           }
@@ -176,12 +154,8 @@ module _ {b columns text : List ℕ} {used : ℕ} {before after : List ℕ} {end
   pub end_is : end ≡ length (take end after)
   end_is = sym (length-take-le end after W.inside)
 
-  -- they fit the output
-  pub end_fits : length (take end after) ≤ length before
-  end_fits = omega (arith, end_is, W.fits)
-
   -- and written there they are the answer
-  pub bind_written : (out : List ℕ) (a : Written) → WrittenIs before out a never (length (take end after)) (take end after)
+  pub bind_written : (out : List ℕ) (a : Result ℕ Refusal) → WrittenIs before out a never (length (take end after)) (take end after)
       → BindIs b columns (take used text) (length text) used before out a
   bind_written out a w =
       let v : WrittenIs before out a never (length (bound_bytes (take used text) columns (parsed Named used b))) (bound_bytes (take used text) columns (parsed Named used b)) = rw W.bytes at w in

@@ -18,8 +18,7 @@ use Rattle.postfix.proofs.Reading.{width_size}
 use Rattle.numbering.specs.Number.{bind_leaf, names_stop}
 use Rattle.numbering.specs.Asked.{LeafAsks}
 use Rattle.numbering.specs.Walk.{BindAsks, Binds}
-use Rattle.numbering.specs.declared.Part.{Part}
-use Rattle.numbering.specs.declared.Part.TheVariants.{Bound, Refused}
+use Rattle.std.specs.Prelude.{Result, Ok, Err}
 
 -- binding changes no count
 pub size_map : {A B : Type 0} (f : A → B) (t : Tree A) → size (map_tree f t) ≡ size t
@@ -50,7 +49,7 @@ module _ {stored columns nodes before : List ℕ} {k depth at end : ℕ} {t : Tr
         record { sound = A.sound; few = A.few; held = is_leaf.1; space = omega (arith, q, A.space); early = omega (arith, q, A.early) }
 
     -- the leaf's part is the tree's
-    pub leaf_bound : (after : List ℕ) (r : Part) → Binds stored columns before after at end (leaf w) r → Binds stored columns before after at end t r
+    pub leaf_bound : (after : List ℕ) (r : Result (ℕ × ℕ) Refusal) → Binds stored columns before after at end (leaf w) r → Binds stored columns before after at end t r
     leaf_bound after r h = rw is_leaf.0 h
 
   module _ {op : ℕ} (e : node_of (get_or nodes k 0) ≡ One op) where
@@ -87,18 +86,18 @@ module _ {stored columns nodes before : List ℕ} {k depth at end : ℕ} {t : Tr
     one_asks = (only, only_asks)
 
     -- the operand was bound, or refused
-    module _ (after : List ℕ) (r : Part)
+    module _ (after : List ℕ) (r : Result (ℕ × ℕ) Refusal)
         (f : (s : Tree ℕ) → BindAsks stored columns nodes before (k - 1) (depth - 1) at end s → Binds stored columns before after at end s r) where
       -- its refusal is handed on
-      pub one_refused : {q : Refusal} → r ≡ Refused q → Binds stored columns before after at end t r
+      pub one_refused : {q : Refusal} → r ≡ Err q → Binds stored columns before after at end t r
       unfolding names_stop
       one_refused {q} g =
           let h : names_stop stored columns at only ≡ stop_of q = rw g at (f only only_asks) in
           rw (g, one.whole) h
 
-      module _ {p n : ℕ} (g : r ≡ Bound p n) (long : length after ≡ length before) where
+      module _ {p n : ℕ} (g : r ≡ Ok (p, n)) (long : length after ≡ length before) where
         -- the operand's part
-        operand : Binds stored columns before after at end only (Bound p n)
+        operand : Binds stored columns before after at end only (Ok (p, n))
         operand = rw g at (f only only_asks)
 
         -- there is space for the operator
@@ -110,7 +109,7 @@ module _ {stored columns nodes before : List ℕ} {k depth at end : ℕ} {t : Tr
         one_next = omega (arith, operand.3, width_size only, one_size one, A.early)
 
         -- with the operator after it, the operand's part is the tree's
-        pub one_binds : Binds stored columns before (set after p op) at end t (Bound (p + 1) (n + 1))
+        pub one_binds : Binds stored columns before (set after p op) at end t (Ok (p + 1, n + 1))
         unfolding names_stop map_tree bytes_of
         one_binds = rw one.whole (
           operand.0,
@@ -157,18 +156,18 @@ module _ {stored columns nodes before : List ℕ} {k depth at end : ℕ} {t : Tr
     left_asks = (left, left_ready)
 
     -- the left operand was bound, or refused
-    module _ (middle : List ℕ) (r : Part)
+    module _ (middle : List ℕ) (r : Result (ℕ × ℕ) Refusal)
         (f : (s : Tree ℕ) → BindAsks stored columns nodes before l (depth - 1) at end s → Binds stored columns before middle at end s r) where
       -- its refusal is handed on
-      pub left_refused : {q : Refusal} → r ≡ Refused q → Binds stored columns before middle at end t r
+      pub left_refused : {q : Refusal} → r ≡ Err q → Binds stored columns before middle at end t r
       unfolding names_stop
       left_refused {q} g =
           let h : names_stop stored columns at left ≡ stop_of q = rw g at (f left left_ready) in
           rw (g, two.whole, h)
 
-      module _ {d m : ℕ} (g : r ≡ Bound d m) (long : length middle ≡ length before) where
+      module _ {d m : ℕ} (g : r ≡ Ok (d, m)) (long : length middle ≡ length before) where
         -- the left operand's part
-        first : Binds stored columns before middle at end left (Bound d m)
+        first : Binds stored columns before middle at end left (Ok (d, m))
         first = rw g at (f left left_ready)
 
         -- the right operand asks no more than what is left
@@ -188,7 +187,7 @@ module _ {stored columns nodes before : List ℕ} {k depth at end : ℕ} {t : Tr
         right_asks = (right, right_ready)
 
         -- the right operand was bound, or refused
-        module _ (after : List ℕ) (s : Part)
+        module _ (after : List ℕ) (s : Result (ℕ × ℕ) Refusal)
             (f₂ : (u : Tree ℕ) → BindAsks stored columns nodes middle (k - 1) (depth - 1) m d u → Binds stored columns middle after m d u s) where
           -- the right operand's bytes begin where the left one's end
           right_names : names_stop stored columns at t ≡ names_stop stored columns m right
@@ -196,14 +195,14 @@ module _ {stored columns nodes before : List ℕ} {k depth at end : ℕ} {t : Tr
           right_names = ap (names_stop stored columns at) two.whole ∙ rw (first.0, first.3)
 
           -- its refusal is handed on
-          pub right_refused : {q : Refusal} → s ≡ Refused q → Binds stored columns before after at end t s
+          pub right_refused : {q : Refusal} → s ≡ Err q → Binds stored columns before after at end t s
           right_refused {q} g₂ =
               let h : names_stop stored columns m right ≡ stop_of q = rw g₂ at (f₂ right right_ready) in
               rw g₂ (right_names ∙ h)
 
-          module _ {p n : ℕ} (g₂ : s ≡ Bound p n) (long₂ : length after ≡ length middle) where
+          module _ {p n : ℕ} (g₂ : s ≡ Ok (p, n)) (long₂ : length after ≡ length middle) where
             -- the right operand's part
-            second : Binds stored columns middle after m d right (Bound p n)
+            second : Binds stored columns middle after m d right (Ok (p, n))
             second = rw g₂ at (f₂ right right_ready)
 
             -- there is space for the operator
@@ -219,7 +218,7 @@ module _ {stored columns nodes before : List ℕ} {k depth at end : ℕ} {t : Tr
             both_bytes = second.2 ∙ ap (λ x. x ++ bytes_of (map_tree (bind_leaf stored columns) right)) first.2 ∙ append_assoc (take end before) _ _
 
             -- with the operator after them, the operands' parts are the tree's
-            pub two_binds : Binds stored columns before (set after p op) at end t (Bound (p + 1) (n + 1))
+            pub two_binds : Binds stored columns before (set after p op) at end t (Ok (p + 1, n + 1))
             unfolding map_tree bytes_of
             two_binds =
                 let x = bytes_of (map_tree (bind_leaf stored columns) left) in

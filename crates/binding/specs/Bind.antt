@@ -3,7 +3,6 @@ use Rattle.std.specs.Prelude.{ℕ, List, [], ◌∷◌, length, get_or}
 use Rattle.refusals.specs.Stop.{Stop, never, first_of}
 use Rattle.slices.specs.Bytes.{same_bytes}
 use Rattle.writing.specs.Writing.{WrittenIs}
-use Rattle.writing.specs.declared.Written.{Written}
 use Rattle.values.specs.Value.{Value, null}
 use Rattle.columns.specs.Column.{columns_stop, Where, nowhere, found, first_from}
 use Rattle.checks.specs.Check.{room_stop, output_stop}
@@ -13,6 +12,8 @@ use Rattle.conditions.specs.Ast.{Atom, literal, column, named, map_tree}
 use Rattle.forms.specs.Form.{Parsed, tree, refusal, parsed, form_stop, of_tree}
 use Rattle.postfix.specs.Postfix.{bytes_of}
 use Rattle.numbering.specs.Number.{bind_leaf, names_stop}
+use Rattle.std.specs.Prelude.{Result}
+use Rattle.refusals.specs.declared.Refusal.{Refusal}
 
 -- all that stops `bind`, in document 01's order
 abbrev pub bind_stop : List ℕ → List ℕ → List ℕ → ℕ → ℕ → ℕ → Stop
@@ -32,7 +33,7 @@ bound_bytes stored columns (tree t) = bytes_of (map_tree (bind_leaf stored colum
 bound_bytes stored columns (refusal number place) = []
 
 -- what `bind` answers and writes
-abbrev pub BindIs : List ℕ → List ℕ → List ℕ → ℕ → ℕ → List ℕ → List ℕ → Written → Type 0
+abbrev pub BindIs : List ℕ → List ℕ → List ℕ → ℕ → ℕ → List ℕ → List ℕ → Result ℕ Refusal → Type 0
 BindIs b columns stored size used before after answer =
     WrittenIs before after answer (bind_stop b columns stored size used (length before)) (length (bound_bytes stored columns (parsed Named used b)))
     (bound_bytes stored columns (parsed Named used b))

@@ -9,11 +9,8 @@ ghost use Rattle.binding.specs.Asked.{before_stop};
 ghost use Rattle.numbering.specs.Walk.{BindAsks, Binds};
 
 use conditions::Node;
-use forms::Scanned;
 use nodes::Allowed;
-use numbering::Part;
-use refusals::Checked;
-use writing::Written;
+use refusals::Refusal;
 
 // The tree whose last node stands at k, by recursion with falling depth: operands first, the left one before the right, then the operator.
 fn bind_node(
@@ -25,7 +22,7 @@ fn bind_node(
     at: usize,
     out: &mut [u8],
     end: usize,
-) -> Part
+) -> Result<(usize, usize), Refusal>
     requires { (t : Tree ℕ) × BindAsks stored.now columns.now nodes.now out.old k depth at end t }
     ensures { (t : Tree ℕ) → BindAsks stored.now columns.now nodes.now out.old k depth at end t →
         Binds stored.now columns.now out.old out.new at end t result }
@@ -33,67 +30,44 @@ fn bind_node(
     match conditions::node_of(nodes[k]) {
         Node::Leaf(word) => numbering::bind_leaf(word, columns, stored, at, out, end),
         Node::One(op) => {
-            let a = bind_node(nodes, k - 1, depth - 1, columns, stored, at, out, end);
-            let Part::Bound(e, n) = a else {
-                return a;
-            };
+            let (e, n) = bind_node(nodes, k - 1, depth - 1, columns, stored, at, out, end)?;
             out[e] = op as u8;
-            Part::Bound(e + 1, n + 1)
+            Ok((e + 1, n + 1))
         }
         Node::Two(op, l) => {
-            let a = bind_node(nodes, l, depth - 1, columns, stored, at, out, end);
-            let Part::Bound(d, m) = a else {
-                return a;
-            };
-            let b = bind_node(nodes, k - 1, depth - 1, columns, stored, m, out, d);
-            let Part::Bound(e, n) = b else {
-                return b;
-            };
+            let (d, m) = bind_node(nodes, l, depth - 1, columns, stored, at, out, end)?;
+            let (e, n) = bind_node(nodes, k - 1, depth - 1, columns, stored, m, out, d)?;
             out[e] = op as u8;
-            Part::Bound(e + 1, n + 1)
+            Ok((e + 1, n + 1))
         }
     }
 }
 
 // What is wrong with the text, the output and the columns.
-fn check_before(columns: &[u64], size: usize, used: usize, output: usize) -> Checked
+fn check_before(columns: &[u64], size: usize, used: usize, output: usize) -> Result<(), Refusal>
     ensures { checked_of result ≡ before_stop columns.now size used output }
 {
-    let room = checks::check_room(size, used, 32768);
-    let Checked::Sound = room else {
-        return room;
-    };
-    let place = checks::check_output(output);
-    let Checked::Sound = place else {
-        return place;
-    };
-    let count = tables::check_count(columns);
-    let Checked::Sound = count else {
-        return count;
-    };
+    checks::check_room(size, used, 32768)?;
+    checks::check_output(output)?;
+    tables::check_count(columns)?;
     columns::check_columns(columns, used, 0)
 }
 
 // `bind`: the bytes are put together in a buffer of their own, since a refused call leaves the output alone.
-pub fn bind(condition: &[u8], columns: &[u64], text: &[u8], used: usize, out: &mut [u8]) -> Written
+pub fn bind(
+    condition: &[u8],
+    columns: &[u64],
+    text: &[u8],
+    used: usize,
+    out: &mut [u8],
+) -> Result<usize, Refusal>
     ensures { BindIs condition.now columns.now (take used text.now) (length text.now) used
         out.old out.new result }
 {
-    let before = check_before(columns, text.len(), used, out.len());
-    if let Checked::Refused(r) = before {
-        return Written::Refused(r);
-    }
+    check_before(columns, text.len(), used, out.len())?;
     let mut table = [0u64; 64];
-    let scanned = forms::scan(Allowed::Named, condition, used, &mut table);
-    match scanned {
-        Scanned::Denied(r) => Written::Refused(r),
-        Scanned::Table(n) => {
-            let mut space = [0u8; 448];
-            let whole = bind_node(&table, n - 1, 16, columns, &text[..used], 0, &mut space, 0);
-            match whole {
-                Part::Refused(r) => Written::Refused(r),
-                Part::Bound(end, _) => writing::write_bytes(&space[..end], out),
-            }
-        }
-    }
+    let n = forms::scan(Allowed::Named, condition, used, &mut table)?;
+    let mut space = [0u8; 448];
+    let (end, _) = bind_node(&table, n - 1, 16, columns, &text[..used], 0, &mut space, 0)?;
+    writing::write_bytes(&space[..end], out)
 }

@@ -7,7 +7,7 @@ ghost use Rattle.std.proofs.Common.{to_z, of_z};
 ghost use Rattle.refusals.specs.Stop.{checked_of};
 ghost use Rattle.cells.specs.Cell.{bodies_of, is_cell, reaches_beyond, cell_stop, word_of, ref_of};
 
-use refusals::{Checked, Refusal};
+use refusals::Refusal;
 
 // A cell's value, its text by start and length: value.rs's ValueRef. Every value of it is a cell of document 01.
 #[derive(Clone, Copy)]
@@ -50,19 +50,19 @@ pub fn reaches_beyond(word: u64, used: usize) -> bool
 }
 
 // What is wrong with the word that stands at a place: 8, or else 3. An Int, the most frequent cell, is told by one comparison.
-pub fn check_cell(word: u64, used: usize, place: usize) -> Checked
+pub fn check_cell(word: u64, used: usize, place: usize) -> Result<(), Refusal>
     ensures { checked_of result ≡ cell_stop used word place }
 {
     if word / 0x1_0000_0000 == 0x100_0000 {
-        return Checked::Sound;
+        return Ok(());
     }
     if !is_cell(word) {
-        return Checked::Refused(Refusal::Malformed(place));
+        return Err(Refusal::Malformed(place));
     }
     if reaches_beyond(word, used) {
-        return Checked::Refused(Refusal::TextOutside(place));
+        return Err(Refusal::TextOutside(place));
     }
-    Checked::Sound
+    Ok(())
 }
 
 // The number of 32 bits in two's complement.
@@ -70,27 +70,21 @@ pub fn signed(bits: u64) -> i32
     requires { bits < 2 ^ 32 }
     ensures { result ≡ to_z w32 bits }
 {
-    if bits < 0x8000_0000 {
-        return bits as i32;
-    }
-    (bits as i64 - 0x1_0000_0000) as i32
+    (bits as u32).cast_signed()
 }
 
 // The 32 bits of a number in two's complement.
 pub fn bits(number: i32) -> u64
     ensures { result ≡ of_z w32 number }
 {
-    if number < 0 {
-        return (number as i64 + 0x1_0000_0000) as u64;
-    }
-    number as u64
+    number.cast_unsigned() as u64
 }
 
-impl ValueRef {
+impl From<u64> for ValueRef {
+    ghost from_gives = { λ word value. value ≡ ref_of word };
+
     // The cell of a word. A malformed word is read by its kind and the low bits of its body.
-    pub fn from_word(word: u64) -> ValueRef
-        ensures { result ≡ ref_of word }
-    {
+    fn from(word: u64) -> ValueRef {
         match word / 0x100_0000_0000_0000 {
             1 => ValueRef::Int(signed(word % 0x1_0000_0000)),
             2 => ValueRef::Str((word / 65536 % 0x1_0000_0000) as u32, (word % 65536) as u16),
@@ -98,12 +92,14 @@ impl ValueRef {
             _ => ValueRef::Null,
         }
     }
+}
+
+impl From<ValueRef> for u64 {
+    ghost from_gives = { λ value word. word ≡ word_of value };
 
     // The word of a cell.
-    pub fn to_word(self) -> u64
-        ensures { result ≡ word_of self }
-    {
-        match self {
+    fn from(value: ValueRef) -> u64 {
+        match value {
             ValueRef::Null => 0,
             ValueRef::Int(number) => 0x100_0000_0000_0000 + bits(number),
             ValueRef::Str(start, length) => {

@@ -6,8 +6,8 @@ use Rattle.slices.specs.Splice.{piece}
 use Rattle.slices.specs.Bytes.{same_bytes}
 use Rattle.cells.specs.Cell.{kind_of, start_of, length_of, is_cell, reaches_beyond}
 use Rattle.rules.specs.Rule.{is_rule}
-use Rattle.columns.specs.declared.Found.{Found}
-use Rattle.columns.specs.declared.Found.TheVariants.{At, Nothing}
+use Rattle.std.specs.Prelude.{Option, Some, None}
+use Rattle.columns.specs.declared.ColumnNumber.{ColumnNumber}
 
 -- a text cell; another kind is malformed
 unfoldable pub is_text : ℕ → Bool
@@ -62,6 +62,6 @@ abbrev pub column_named : List ℕ → List ℕ → List ℕ → Where
 column_named stored columns name = first_from (λ other. same_bytes other name) 0 (names stored columns)
 
 -- what an answer of the search tells
-abbrev pub found_of : Found → Where
-found_of (At number) = found number.0
-found_of Nothing = nowhere
+abbrev pub found_of : Option ColumnNumber → Where
+found_of (Some number) = found number.0
+found_of None = nowhere

@@ -1,6 +1,6 @@
 -- From an operator's exact result to what an evaluation's answer says. Assumes nothing.
 use mathlib.Core.Path.{◌≡◌, refl, sym, ap, ◌∙◌}
-use mathlib.Core.List.{List, [], ◌∷◌}
+use mathlib.Core.List.{List}
 use Prim.Native.Nat.{ℕ, ◌+◌, ◌≤◌}
 use native.Mathlib.Omega.{arith}
 use lib.ListN.{length, take}
@@ -8,49 +8,40 @@ use lib.Seq.{take-take, length-take-le, drop_at, take_all}
 use Rattle.slices.specs.Splice.{piece}
 use Rattle.slices.proofs.Splice.{take_splice, front_splice}
 use Rattle.slices.proofs.Pieces.{piece_take}
-use denote.Enum.Declared.{tag_of}
-use types.Run.{OneOf, miss}
 use Rattle.cells.specs.Cell.{WellFormed, Inside, ref_of, word_of}
 use Rattle.cells.proofs.Words.{Sized, ref_back}
 use Rattle.cells.proofs.Stops.{well_word, well_inside, inside_more}
 use Rattle.cells.specs.declared.ValueRef.{ValueRef}
 use Rattle.cells.specs.declared.ValueRef.TheVariants.{Null, Int, Str, Binary}
 use Rattle.values.specs.Value.{Value, null, int, str, binary, to_value, value_of}
-use Rattle.integers.specs.Outcome.{Outcome, value, Reply, reply_of, cell_at, rise, placed}
-use Rattle.integers.specs.declared.Answer.{Answer}
-use Rattle.integers.specs.declared.Answer.TheVariants.{Gave, Overflow, ShiftAmount, TooLong}
-use Rattle.integers.specs.contracts.Answer.{the_type}
+use Rattle.integers.specs.Outcome.{Outcome, value, Reply, number_of, reply_of, cell_at, rise, placed}
 use Rattle.integers.proofs.Unique.{one_answer}
 use Rattle.operators.specs.Operator.{text_after, Applied}
 use Rattle.operators.proofs.Holding.{Fitting, Holds}
 use Rattle.conditions.specs.Ast.{and_then}
 use Rattle.conditions.specs.Table.{Says, Gives}
+use Rattle.std.specs.Prelude.{Result, Ok, Err}
+use Rattle.integers.specs.declared.Fault.{Fault}
 
 -- ---- refusals
 
 -- an answer that tells a refusal says it
-refused_says : (t : List ℕ) (top room : ℕ) (r : Answer) (n : ℕ) → reply_of r ≡ Reply.refused n → Says t top room r (Outcome.refused n)
-refused_says t top room (Gave w u) n e = absurd (let z : ◌≡◌ {A = ℕ} 0 1 = cc in omega arith)
-refused_says t top room Overflow n e = let q : n ≡ 5 = cc in ap Outcome.refused q
-refused_says t top room ShiftAmount n e = let q : n ≡ 6 = cc in ap Outcome.refused q
-refused_says t top room TooLong n e = let q : n ≡ 7 = cc in ap Outcome.refused q
+refused_says : (t : List ℕ) (top room : ℕ) (r : Result (ℕ × ℕ) Fault) (n : ℕ) → reply_of r ≡ Reply.refused n → Says t top room r (Outcome.refused n)
+refused_says t top room (Ok (w, u)) n e = absurd (let z : ◌≡◌ {A = ℕ} 0 1 = cc in omega arith)
+refused_says t top room (Err fault) n e = let q : n ≡ number_of fault = cc in ap Outcome.refused q
 
 -- a refusal is handed on, whatever would have followed
-pub handed_on_lem : (t : List ℕ) (top room top' room' : ℕ) (r : Answer) (o : Outcome) (f : Value → Outcome) → OneOf (1 ∷ 2 ∷ 3 ∷ []) (tag_of the_type r)
+pub handed_on_lem : (t : List ℕ) (top room top' room' : ℕ) (r : Result (ℕ × ℕ) Fault) (o : Outcome) (f : Value → Outcome) → (fault : Fault) × (r ≡ Err fault)
     → Says t top room r o → Says t top' room' r (and_then o f)
-handed_on_lem t top room top' room' (Gave w u) o f h s = absurd (miss (1 ∷ 2 ∷ 3 ∷ []) 0 tt h)
-handed_on_lem t top room top' room' Overflow o f h s = rw s
-handed_on_lem t top room top' room' ShiftAmount o f h s = rw s
-handed_on_lem t top room top' room' TooLong o f h s = rw s
+handed_on_lem t top room top' room' (Ok (w, u)) o f h s = absurd (let q = h.1 in let z : ◌≡◌ {A = ℕ} 0 1 = cc in omega arith)
+handed_on_lem t top room top' room' (Err fault) o f h s = rw s
 
 -- ---- more room
 
 -- what an answer says of a higher top, it says of a lower one whose room reaches as far
-pub says_more : (t : List ℕ) (top u room more : ℕ) (r : Answer) (o : Outcome) → top ≤ u → u + room ≤ top + more → Says t u room r o → Says t top more r o
-says_more t top u room more (Gave w v) o l h s = (s.0, s.1, omega (arith, s.2), omega (arith, s.3))
-says_more t top u room more Overflow o l h s = s
-says_more t top u room more ShiftAmount o l h s = s
-says_more t top u room more TooLong o l h s = s
+pub says_more : (t : List ℕ) (top u room more : ℕ) (r : Result (ℕ × ℕ) Fault) (o : Outcome) → top ≤ u → u + room ≤ top + more → Says t u room r o → Says t top more r o
+says_more t top u room more (Ok (w, v)) o l h s = (s.0, s.1, omega (arith, s.2), omega (arith, s.3))
+says_more t top u room more (Err fault) o l h s = s
 
 -- what two steps keep
 pub kept_trans : (a b c : List ℕ) (top t : ℕ) → top ≤ t → take top b ≡ take top a → take t c ≡ take t b → take top c ≡ take top a
@@ -94,10 +85,10 @@ module _ (before after : List ℕ) (top room most : ℕ) (i : top ≤ length bef
       ∙ ap (take (length b)) (drop_at (take top before) b top (length-take-le top before i)) ∙ take_all (length b) b (omega arith))
   means binary e = refl
 
-  gives_value : (v : Value) (r : Answer) → Fitting most v → reply_of r ≡ placed top (value v) → after ≡ text_after before top (value v) → Gives before after top room r (value v)
+  gives_value : (v : Value) (r : Result (ℕ × ℕ) Fault) → Fitting most v → reply_of r ≡ placed top (value v) → after ≡ text_after before top (value v) → Gives before after top room r (value v)
   unfolding placed
   gives_value v r h e t =
-      let q : r ≡ Gave (word_of (cell_at top v)) (top + rise v) = one_answer r (Gave (word_of (cell_at top v)) (top + rise v)) e in
+      let q : r ≡ Ok (word_of (cell_at top v), top + rise v) = one_answer r (Ok (word_of (cell_at top v), top + rise v)) e in
       let s = sized v h in
       record {
         kept = kept v t;
@@ -109,12 +100,12 @@ module _ (before after : List ℕ) (top room most : ℕ) (i : top ≤ length bef
         );
       }
 
-  go : (o : Outcome) (r : Answer) → Holds most o → reply_of r ≡ placed top o → after ≡ text_after before top o → Gives before after top room r o
+  go : (o : Outcome) (r : Result (ℕ × ℕ) Fault) → Holds most o → reply_of r ≡ placed top o → after ≡ text_after before top o → Gives before after top room r o
   unfolding placed
   go (value v) r h e t = gives_value v r h.held e t
   go (Outcome.refused n) r h e t = record { kept = ap (take top) t; says = refused_says after top room r n e }
 
-  pub applied_gives : (r : Answer) (o : Outcome) → Holds most o → Applied before after top r o → Gives before after top room r o
+  pub applied_gives : (r : Result (ℕ × ℕ) Fault) (o : Outcome) → Holds most o → Applied before after top r o → Gives before after top room r o
   applied_gives r o h a = go o r h a.reply a.text
 
 -- ---- a cell in a text that has grown above it

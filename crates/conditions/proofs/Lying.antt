@@ -1,41 +1,24 @@
 -- Where the cell of an answer lies. Assumes nothing.
-use mathlib.Core.Path.{◌≡◌, refl}
-use mathlib.Core.List.{List, [], ◌∷◌}
+use mathlib.Core.Path.{◌≡◌}
+use mathlib.Core.List.{List}
 use Prim.Native.Nat.{ℕ, ◌+◌, ◌*◌, ◌^◌, ◌/◌, ◌%◌, ◌≤◌, ◌<◌}
 use native.Mathlib.Omega.{arith}
 use lib.ListN.{length}
-use denote.Enum.Declared.{tag_of}
-use types.Run.{OneOf, hit, miss}
 use mir.Syntax.{w32}
 use mir.Val.{of_z}
 use mir.Facts.{Fits-of_z}
 use Rattle.cells.specs.Cell.{kind_of, start_of, word_of}
 use Rattle.values.specs.Value.{Value, null, int, str, binary}
 use Rattle.integers.specs.Outcome.{Outcome, value, gave, reply_of, cell_at, placed}
-use Rattle.integers.specs.declared.Answer.{Answer}
-use Rattle.integers.specs.declared.Answer.TheVariants.{Gave, Overflow, ShiftAmount, TooLong}
-use Rattle.integers.specs.contracts.Answer.{the_type}
 use Rattle.operators.proofs.Holding.{Fitting, Holds}
 use Rattle.conditions.specs.Table.{Lies, LeafIs}
 use Rattle.conditions.specs.declared.Node.{Node}
 use Rattle.conditions.specs.declared.Node.TheVariants.{Leaf, One, Two}
-
--- an answer that is no value is one of the refusals
-pub among_refusals : (r : Answer) → ((w u : ℕ) → r ≡ Gave w u → ⊥) → OneOf (1 ∷ 2 ∷ 3 ∷ []) (tag_of the_type r)
-among_refusals (Gave w u) h = absurd (h w u refl)
-among_refusals Overflow h = hit (1 ∷ 2 ∷ 3 ∷ []) 1 tt
-among_refusals ShiftAmount h = hit (1 ∷ 2 ∷ 3 ∷ []) 2 tt
-among_refusals TooLong h = hit (1 ∷ 2 ∷ 3 ∷ []) 3 tt
-
--- a refusal lies nowhere
-pub lies_refused : (top : ℕ) (node : Node) (row : List ℕ) (r : Answer) → OneOf (1 ∷ 2 ∷ 3 ∷ []) (tag_of the_type r) → Lies top node row r
-lies_refused top node row (Gave w u) h = absurd (miss (1 ∷ 2 ∷ 3 ∷ []) 0 tt h)
-lies_refused top node row Overflow h = tt
-lies_refused top node row ShiftAmount h = tt
-lies_refused top node row TooLong h = tt
+use Rattle.std.specs.Prelude.{Result, Ok, Err}
+use Rattle.integers.specs.declared.Fault.{Fault}
 
 -- a leaf's cell is its own
-pub lies_leaf : (top used x : ℕ) (node : Node) (row : List ℕ) (w u : ℕ) → node ≡ Leaf x → LeafIs used x row w → Lies top node row (Gave w u)
+pub lies_leaf : (top used x : ℕ) (node : Node) (row : List ℕ) (w u : ℕ) → node ≡ Leaf x → LeafIs used x row w → Lies top node row (Ok (w, u))
 lies_leaf top used x node row w u e l = rw e l.exact
 
 -- the word of a value whose text stands at t is no text, or one that starts there
@@ -56,20 +39,16 @@ module _ (t most : ℕ) (m : most ≤ 1024) (s : t ≤ 65536) where
   placed_above (Outcome.refused n) h w u e k = absurd (let z : ◌≡◌ {A = ℕ} 0 1 = cc in omega arith)
 
   -- an answer by its reply, where no leaf is asked for
-  lies_placed : (top : ℕ) → top ≤ t → (o : Outcome) → Holds most o → (r : Answer) → reply_of r ≡ placed t o → (op : ℕ) (row : List ℕ) → Lies top (One op) row r
-  lies_placed top l o h (Gave w u) e op row = λ k. omega (arith, placed_above o h w u e k)
-  lies_placed top l o h Overflow e op row = tt
-  lies_placed top l o h ShiftAmount e op row = tt
-  lies_placed top l o h TooLong e op row = tt
+  lies_placed : (top : ℕ) → top ≤ t → (o : Outcome) → Holds most o → (r : Result (ℕ × ℕ) Fault) → reply_of r ≡ placed t o → (op : ℕ) (row : List ℕ) → Lies top (One op) row r
+  lies_placed top l o h (Ok (w, u)) e op row = λ k. omega (arith, placed_above o h w u e k)
+  lies_placed top l o h (Err fault) e op row = tt
 
-  pub lies_one : (top op : ℕ) (node : Node) (row : List ℕ) (o : Outcome) (r : Answer) → top ≤ t → node ≡ One op → Holds most o → reply_of r ≡ placed t o → Lies top node row r
+  pub lies_one : (top op : ℕ) (node : Node) (row : List ℕ) (o : Outcome) (r : Result (ℕ × ℕ) Fault) → top ≤ t → node ≡ One op → Holds most o → reply_of r ≡ placed t o → Lies top node row r
   lies_one top op node row o r l e h f = rw e (lies_placed top l o h r f op row)
 
-  pub lies_two : (top op x : ℕ) (node : Node) (row : List ℕ) (o : Outcome) (r : Answer) → top ≤ t → node ≡ Two op x → Holds most o → reply_of r ≡ placed t o → Lies top node row r
+  pub lies_two : (top op x : ℕ) (node : Node) (row : List ℕ) (o : Outcome) (r : Result (ℕ × ℕ) Fault) → top ≤ t → node ≡ Two op x → Holds most o → reply_of r ≡ placed t o → Lies top node row r
   lies_two top op x node row o r l e h f = rw e (same r (lies_placed top l o h r f op row))
     where
-      same : (r : Answer) → Lies top (One op) row r → Lies top (Two op x) row r
-      same (Gave w u) q = q
-      same Overflow q = tt
-      same ShiftAmount q = tt
-      same TooLong q = tt
+      same : (r : Result (ℕ × ℕ) Fault) → Lies top (One op) row r → Lies top (Two op x) row r
+      same (Ok (w, u)) q = q
+      same (Err fault) q = tt

@@ -1,24 +1,24 @@
 -- Two results that satisfy a contract of this crate are equal, but for what docs/EXCEPTIONS.md leaves open; those of node_of and leaf are equations already.
 -- Assumes nothing.
-use mathlib.Core.Path.{◌≡◌, refl, sym, ap, ◌∙◌}
+use mathlib.Core.Path.{◌≡◌, sym, ap, ◌∙◌}
 use mathlib.Core.List.{List}
 use mathlib.Core.Bool.{Bool, false}
 use Prim.Native.Nat.{ℕ}
-use native.Mathlib.Omega.{arith}
 use lib.ListN.{length, take, get_or}
 use Rattle.cells.specs.Cell.{WellFormed, ref_of}
 use Rattle.cells.proofs.Stops.{never_stops}
 use Rattle.values.specs.Value.{value_of, to_bool}
 use Rattle.values.proofs.ByWord.{is_str, one_word}
-use Rattle.integers.specs.Outcome.{Outcome, value}
-use Rattle.integers.specs.declared.Answer.{Answer}
-use Rattle.integers.specs.declared.Answer.TheVariants.{Gave, Overflow, ShiftAmount, TooLong}
+use Rattle.integers.specs.Outcome.{Outcome, value, number_of}
 use Rattle.integers.proofs.Unique.{one_value}
 use Rattle.operators.specs.declared.Rules.{Rules}
 use Rattle.conditions.specs.Ast.{decides}
 use Rattle.conditions.specs.Table.{node_of, Answers, Lies, LiesAt}
 use Rattle.conditions.specs.declared.Node.{Node}
 use Rattle.conditions.specs.declared.Node.TheVariants.{Leaf, One, Two}
+use Rattle.std.specs.Prelude.{Result, Ok, Err}
+use Rattle.integers.specs.declared.Fault.{Fault}
+use Rattle.integers.proofs.Unique.{no_fault, one_fault}
 
 -- truth, of a cell that is well formed in some text
 pub one_truth : (word : ℕ) (r s : Bool) (stored : List ℕ) → WellFormed (length stored) word
@@ -47,14 +47,10 @@ pub record Alike (node : Node) (text text' : List ℕ) (w w' : ℕ) : Type 0 whe
   pub leaf : SameLeaf node w w'
 
 -- two answers: alike cells, or the same refusal; the tops may differ
-abbrev pub Same : Node → List ℕ → List ℕ → Answer → Answer → Type 0
-Same node after after' (Gave w u) (Gave w' u') = Alike node (take u after) (take u' after') w w'
-Same node after after' (Gave w u) Overflow = ⊥
-Same node after after' (Gave w u) ShiftAmount = ⊥
-Same node after after' (Gave w u) TooLong = ⊥
-Same node after after' Overflow s = Overflow ≡ s
-Same node after after' ShiftAmount s = ShiftAmount ≡ s
-Same node after after' TooLong s = TooLong ≡ s
+abbrev pub Same : Node → List ℕ → List ℕ → Result (ℕ × ℕ) Fault → Result (ℕ × ℕ) Fault → Type 0
+Same node after after' (Ok (w, u)) (Ok (w', u')) = Alike node (take u after) (take u' after') w w'
+Same node after after' (Ok (w, u)) (Err fault) = ⊥
+Same node after after' (Err fault) s = Err fault ≡ s
 
 -- the number of an outcome's refusal
 numbered : Outcome → ℕ
@@ -77,29 +73,17 @@ module _ (R : Rules) (used top depth k : ℕ) (nodes row before after after' : L
   abbrev node : Node
   node = node_of (get_or nodes k 0)
 
-  one_answer : (r s : Answer) → Answers R used top depth k nodes row before after r → Lies top node row r
+  one_answer : (r s : Result (ℕ × ℕ) Fault) → Answers R used top depth k nodes row before after r → Lies top node row r
       → Answers R used top depth k nodes row before after' s → Lies top node row s → Same node after after' r s
   unfolding numbered
-  one_answer (Gave w u) (Gave w' u') h l i m =
+  one_answer (Ok (w, u)) (Ok (w', u')) h l i m =
       alike node (take u after) (take u' after') u u' w w' (one_value (sym h.says.0 ∙ i.says.0)) h.says.1 i.says.1 (one_leaf top node row w w' l m)
-  one_answer (Gave w u) Overflow h l i m = let e : ◌≡◌ {A = ℕ} 0 5 = ap numbered (sym h.says.0 ∙ i.says) in omega arith
-  one_answer (Gave w u) ShiftAmount h l i m = let e : ◌≡◌ {A = ℕ} 0 6 = ap numbered (sym h.says.0 ∙ i.says) in omega arith
-  one_answer (Gave w u) TooLong h l i m = let e : ◌≡◌ {A = ℕ} 0 7 = ap numbered (sym h.says.0 ∙ i.says) in omega arith
-  one_answer Overflow (Gave w u) h l i m = absurd (let e : ◌≡◌ {A = ℕ} 5 0 = ap numbered (sym h.says ∙ i.says.0) in omega arith)
-  one_answer Overflow Overflow h l i m = refl
-  one_answer Overflow ShiftAmount h l i m = absurd (let e : ◌≡◌ {A = ℕ} 5 6 = ap numbered (sym h.says ∙ i.says) in omega arith)
-  one_answer Overflow TooLong h l i m = absurd (let e : ◌≡◌ {A = ℕ} 5 7 = ap numbered (sym h.says ∙ i.says) in omega arith)
-  one_answer ShiftAmount (Gave w u) h l i m = absurd (let e : ◌≡◌ {A = ℕ} 6 0 = ap numbered (sym h.says ∙ i.says.0) in omega arith)
-  one_answer ShiftAmount Overflow h l i m = absurd (let e : ◌≡◌ {A = ℕ} 6 5 = ap numbered (sym h.says ∙ i.says) in omega arith)
-  one_answer ShiftAmount ShiftAmount h l i m = refl
-  one_answer ShiftAmount TooLong h l i m = absurd (let e : ◌≡◌ {A = ℕ} 6 7 = ap numbered (sym h.says ∙ i.says) in omega arith)
-  one_answer TooLong (Gave w u) h l i m = absurd (let e : ◌≡◌ {A = ℕ} 7 0 = ap numbered (sym h.says ∙ i.says.0) in omega arith)
-  one_answer TooLong Overflow h l i m = absurd (let e : ◌≡◌ {A = ℕ} 7 5 = ap numbered (sym h.says ∙ i.says) in omega arith)
-  one_answer TooLong ShiftAmount h l i m = absurd (let e : ◌≡◌ {A = ℕ} 7 6 = ap numbered (sym h.says ∙ i.says) in omega arith)
-  one_answer TooLong TooLong h l i m = refl
+  one_answer (Ok (w, u)) (Err g) h l i m = let e : 0 ≡ number_of g = ap numbered (sym h.says.0 ∙ i.says) in no_fault g (sym e)
+  one_answer (Err f) (Ok (w, u)) h l i m = absurd (let e : number_of f ≡ 0 = ap numbered (sym h.says ∙ i.says.0) in no_fault f e)
+  one_answer (Err f) (Err g) h l i m = let e : number_of f ≡ number_of g = ap numbered (sym h.says ∙ i.says) in ap Err (one_fault f g e)
 
   -- evaluate
-  pub one_evaluation : (r s : Answer) → Answers R used top depth k nodes row before after r → Lies top node row r
+  pub one_evaluation : (r s : Result (ℕ × ℕ) Fault) → Answers R used top depth k nodes row before after r → Lies top node row r
       → Answers R used top depth k nodes row before after' s → Lies top node row s
       → (take top after ≡ take top after') × Same node after after' r s
   one_evaluation r s h l i m = (h.kept ∙ sym i.kept, one_answer r s h l i m)

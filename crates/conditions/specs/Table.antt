@@ -4,13 +4,13 @@ use Rattle.std.specs.Prelude.{ℕ, zero, suc, ◌+◌, ◌-◌, ◌*◌, ◌^◌
 use Rattle.slices.specs.Splice.{piece}
 use Rattle.cells.specs.Cell.{WellFormed, kind_of, start_of, length_of}
 use Rattle.values.specs.Value.{Value, null, value_of}
-use Rattle.integers.specs.Outcome.{Outcome, value}
-use Rattle.integers.specs.declared.Answer.{Answer}
-use Rattle.integers.specs.declared.Answer.TheVariants.{Gave, Overflow, ShiftAmount, TooLong}
+use Rattle.integers.specs.Outcome.{Outcome, value, number_of}
 use Rattle.operators.specs.declared.Rules.{Rules}
 use Rattle.conditions.specs.Ast.{Ast, Atom, leaf, literal, column, named, unary, binary, joins, eval}
 use Rattle.conditions.specs.declared.Node.{Node}
 use Rattle.conditions.specs.declared.Node.TheVariants.{Leaf, One, Two}
+use Rattle.std.specs.Prelude.{Result, Ok, Err}
+use Rattle.integers.specs.declared.Fault.{Fault}
 
 -- the node of a word, kind × 2^56 + body: a leaf's body is its cell's or its column's, a two-sided operator's the index of its left operand
 unfoldable pub node_of : ℕ → Node
@@ -65,19 +65,17 @@ pub record Asks (R : Rules) (used top depth k : ℕ) (nodes row text : List ℕ)
   pub room : top + 1024 * joins (tree_of (take used text) depth nodes k) ≤ length text
 
 -- what an answer says of an outcome, where the text now is t, the top was this and may have risen by so much
-abbrev pub Says : List ℕ → ℕ → ℕ → Answer → Outcome → Type 0
-Says t top room (Gave w u) o = (o ≡ value (value_of (take u t) w)) × WellFormed u w × (top ≤ u) × (u ≤ top + room)
-Says t top room Overflow o = o ≡ Outcome.refused 5
-Says t top room ShiftAmount o = o ≡ Outcome.refused 6
-Says t top room TooLong o = o ≡ Outcome.refused 7
+abbrev pub Says : List ℕ → ℕ → ℕ → Result (ℕ × ℕ) Fault → Outcome → Type 0
+Says t top room (Ok (w, u)) o = (o ≡ value (value_of (take u t) w)) × WellFormed u w × (top ≤ u) × (u ≤ top + room)
+Says t top room (Err fault) o = o ≡ Outcome.refused (number_of fault)
 
 -- and the text below the old top is as it was
-pub record Gives (before after : List ℕ) (top room : ℕ) (r : Answer) (o : Outcome) : Type 0 where
+pub record Gives (before after : List ℕ) (top room : ℕ) (r : Result (ℕ × ℕ) Fault) (o : Outcome) : Type 0 where
   pub kept : take top after ≡ take top before
   pub says : Says after top room r o
 
 -- what evaluation answers: as `eval` does, of the tree at k and the row, both read in the text below the mark as it was
-abbrev pub Answers : (R : Rules) (used top depth k : ℕ) (nodes row before after : List ℕ) → Answer → Type 0
+abbrev pub Answers : (R : Rules) (used top depth k : ℕ) (nodes row before after : List ℕ) → Result (ℕ × ℕ) Fault → Type 0
 Answers R used top depth k nodes row before after r =
     Gives before after top (1024 * joins (tree_of (take used before) depth nodes k)) r
     (eval R (row_of (take used before) row) (tree_of (take used before) depth nodes k))
@@ -93,11 +91,9 @@ LiesAt top (One op) row w = kind_of w ≡ 2 → top ≤ start_of w
 LiesAt top (Two op l) row w = kind_of w ≡ 2 → top ≤ start_of w
 
 -- where the cell of an answer lies
-abbrev pub Lies : ℕ → Node → List ℕ → Answer → Type 0
-Lies top node row (Gave w u) = LiesAt top node row w
-Lies top node row Overflow = Unit {0}
-Lies top node row ShiftAmount = Unit {0}
-Lies top node row TooLong = Unit {0}
+abbrev pub Lies : ℕ → Node → List ℕ → Result (ℕ × ℕ) Fault → Type 0
+Lies top node row (Ok (w, u)) = LiesAt top node row w
+Lies top node row (Err fault) = Unit {0}
 
 -- what the word of a leaf's cell is
 pub record LeafIs (used w : ℕ) (row : List ℕ) (r : ℕ) : Type 0 where

@@ -9,7 +9,7 @@ ghost use Rattle.conditions.specs.Ast.{decides, two_sided};
 ghost use Rattle.conditions.specs.Table.{node_of, LeafSound, RowSound, LeafIs, Asks, Answers, Lies};
 
 use cells::ValueRef;
-use integers::Answer;
+use integers::Fault;
 use operators::Rules;
 
 // A node of the table: a leaf's word, or an operator with the index of its left operand. The right operand, or the only one, stands just before.
@@ -50,7 +50,7 @@ pub fn leaf(word: u64, row: &[u64], used: usize) -> u64
 pub fn truth(word: u64) -> bool
     ensures { (stored : List ℕ) → WellFormed (length stored) word → result ≡ to_bool (value_of stored word) }
 {
-    values::to_bool(ValueRef::from_word(word))
+    values::to_bool(ValueRef::from(word))
 }
 
 // Whether a two-sided operator is decided by its left operand.
@@ -67,7 +67,14 @@ pub fn decided(op: u64, left: u64) -> bool
 }
 
 // A two-sided operator whose left operand has not decided it.
-fn apply(rules: Rules, op: u64, left: u64, right: u64, text: &mut [u8], top: usize) -> Answer
+fn apply(
+    rules: Rules,
+    op: u64,
+    left: u64,
+    right: u64,
+    text: &mut [u8],
+    top: usize,
+) -> Result<(u64, usize), Fault>
     requires { (32 ≤ op) × (op < 50) × Room rules top (length text.old) × WellFormed top left × WellFormed top right }
     ensures { Applied text.old text.new top result
         (two_sided rules op (value_of (take top text.old) left) (value_of (take top text.old) right)) }
@@ -75,7 +82,7 @@ fn apply(rules: Rules, op: u64, left: u64, right: u64, text: &mut [u8], top: usi
     if op < 47 {
         return operators::binary(rules, op, left, right, text, top);
     }
-    Answer::Gave(operators::flag(truth(right)), top)
+    Ok((operators::flag(truth(right)), top))
 }
 
 // The operand whose last node stands at k: a leaf is read here, with no deeper call.
@@ -89,14 +96,14 @@ fn operand(
     text: &mut [u8],
     used: usize,
     top: usize,
-) -> Answer
+) -> Result<(u64, usize), Fault>
     requires { Asks rules used top depth k nodes.now row.now text.old }
     ensures means { Answers rules used top depth k nodes.now row.now text.old text.new result }
     ensures lies { Lies top (node_of (get_or nodes.now k 0)) row.now result }
 {
     let word = nodes[k];
     if word < 0x1000_0000_0000_0000 {
-        return Answer::Gave(leaf(word, row, used), top);
+        return Ok((leaf(word, row, used), top));
     }
     evaluate(rules, nodes, k, depth, row, text, used, top)
 }
@@ -112,16 +119,16 @@ pub fn evaluate(
     text: &mut [u8],
     used: usize,
     top: usize,
-) -> Answer
+) -> Result<(u64, usize), Fault>
     requires { Asks rules used top depth k nodes.now row.now text.old }
     ensures means { Answers rules used top depth k nodes.now row.now text.old text.new result }
     ensures lies { Lies top (node_of (get_or nodes.now k 0)) row.now result }
 {
     match node_of(nodes[k]) {
-        Node::Leaf(word) => Answer::Gave(leaf(word, row, used), top),
+        Node::Leaf(word) => Ok((leaf(word, row, used), top)),
         Node::One(op) => {
             let a = operand(rules, nodes, k - 1, depth - 1, row, text, used, top);
-            let Answer::Gave(v, t) = a else {
+            let Ok((v, t)) = a else {
                 return a;
             };
             operators::unary(rules, op, v, t)
@@ -129,14 +136,14 @@ pub fn evaluate(
         Node::Two(op, l) => {
             let r = k - 1;
             let a = operand(rules, nodes, l, depth - 1, row, text, used, top);
-            let Answer::Gave(v, t) = a else {
+            let Ok((v, t)) = a else {
                 return a;
             };
             if decided(op, v) {
-                return Answer::Gave(operators::flag(truth(v)), t);
+                return Ok((operators::flag(truth(v)), t));
             }
             let b = operand(rules, nodes, r, depth - 1, row, text, used, t);
-            let Answer::Gave(w, u) = b else {
+            let Ok((w, u)) = b else {
                 return b;
             };
             apply(rules, op, v, w, text, u)

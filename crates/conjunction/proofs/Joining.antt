@@ -4,17 +4,16 @@ use mathlib.Core.List.{List, [], ◌∷◌, ◌++◌}
 use Prim.Native.Nat.{ℕ, ◌+◌, ◌≤◌, ◌<◌}
 use native.Mathlib.Omega.{arith}
 use lib.ListN.{length, take, set, length-append}
-use lib.Seq.{length-take-le}
 use Rattle.slices.specs.Splice.{Wrote}
-use Rattle.slices.proofs.Splice.{wrote_then, wrote_length, wrote_front, wrote_one}
+use Rattle.slices.proofs.Splice.{wrote_then, wrote_front, wrote_one}
 use Rattle.refusals.specs.Stop.{never, stop_of, counted_from, or_else}
 use Rattle.refusals.specs.declared.Refusal.{Refusal}
 use Rattle.writing.specs.Writing.{WrittenIs}
-use Rattle.writing.specs.declared.Written.{Written}
 use Rattle.nodes.specs.declared.Allowed.TheVariants.{Mixed}
 use Rattle.forms.specs.Form.{parsed, form_stop}
 use Rattle.conjunction.specs.With.{conjunction, each_stop, with_stop, WithIs}
 use Rattle.conjunction.proofs.Stopping.{counted_zero}
+use Rattle.std.specs.Prelude.{Result}
 
 -- a conjunction has at most one byte more than the two conditions
 pub conjunction_long : (old new : List ℕ) → length (conjunction old new) ≤ length old + length new + 1
@@ -40,21 +39,13 @@ module _ (old new d e f : List ℕ) (p q : ℕ) (first : Wrote d 0 old p e) (sec
 pub wrote_whole : {d s : List ℕ} {p : ℕ} {e : List ℕ} → Wrote d 0 s p e → take p e ≡ s
 wrote_whole w = wrote_front w
 
--- and the front reaches to where the writing ended
-pub front_long : {d s : List ℕ} {p : ℕ} {e : List ℕ} → Wrote d 0 s p e → p ≡ length (take p e)
-front_long {d} {s} {p} {e} w = sym (length-take-le p e (omega (arith, w.room, w.place, wrote_length w)))
-
 -- the joined bytes decide, where each condition alone is sound
-module _ (size used : ℕ) (old new before b : List ℕ) where
-  pub each_stops : (r : Refusal) → each_stop size used (length before) old new ≡ stop_of r → with_stop size used (length before) old new ≡ stop_of r
-  each_stops r e = rw e
+module _ (size used : ℕ) (old new before b : List ℕ) (e : each_stop size used (length before) old new ≡ never) (q : b ≡ conjunction old new) where
+  whole_stop : with_stop size used (length before) old new ≡ counted_from 0 (form_stop (parsed Mixed used b))
+  whole_stop = ap (λ s. or_else s (form_stop (parsed Mixed used (conjunction old new)))) e ∙ ap (λ l. form_stop (parsed Mixed used l)) (sym q) ∙ sym (counted_zero (form_stop (parsed Mixed used b)))
 
-  module _ (e : each_stop size used (length before) old new ≡ never) (q : b ≡ conjunction old new) where
-    whole_stop : with_stop size used (length before) old new ≡ counted_from 0 (form_stop (parsed Mixed used b))
-    whole_stop = ap (λ s. or_else s (form_stop (parsed Mixed used (conjunction old new)))) e ∙ ap (λ l. form_stop (parsed Mixed used l)) (sym q) ∙ sym (counted_zero (form_stop (parsed Mixed used b)))
+  pub whole_stops : (r : Refusal) → counted_from 0 (form_stop (parsed Mixed used b)) ≡ stop_of r → with_stop size used (length before) old new ≡ stop_of r
+  whole_stops r h = whole_stop ∙ h
 
-    pub whole_stops : (r : Refusal) → counted_from 0 (form_stop (parsed Mixed used b)) ≡ stop_of r → with_stop size used (length before) old new ≡ stop_of r
-    whole_stops r h = whole_stop ∙ h
-
-    pub with_written : (after : List ℕ) (a : Written) → counted_from 0 (form_stop (parsed Mixed used b)) ≡ never → WrittenIs before after a never (length b) b → WithIs size used old new before after a
-    with_written after a h w = rw (whole_stop ∙ h, ← q) w
+  pub with_written : (after : List ℕ) (a : Result ℕ Refusal) → counted_from 0 (form_stop (parsed Mixed used b)) ≡ never → WrittenIs before after a never (length b) b → WithIs size used old new before after a
+  with_written after a h w = rw (whole_stop ∙ h, ← q) w

@@ -6,9 +6,8 @@ use native.Mathlib.Omega.{arith}
 use native.Mathlib.Nat.{zero-add}
 use lib.ListN.{length}
 use Rattle.refusals.specs.Told.{told}
-use Rattle.refusals.specs.Stop.{Stop, never, stop, stop_of, checked_of, counted_from, or_else}
+use Rattle.refusals.specs.Stop.{Stop, never, stop, counted_from, or_else}
 use Rattle.refusals.specs.declared.Refusal.{Refusal}
-use Rattle.refusals.specs.declared.Checked.TheVariants.{Refused}
 use Rattle.refusals.proofs.First.{never_both}
 use Rattle.refusals.proofs.Counting.{counted_never}
 use Rattle.checks.specs.Check.{room_stop, output_stop}
@@ -16,42 +15,25 @@ use Rattle.checks.proofs.Turns.{output_there}
 use Rattle.nodes.specs.declared.Allowed.TheVariants.{Mixed}
 use Rattle.forms.specs.Form.{Parsed, tree, refusal, parsed, form_stop}
 use Rattle.forms.specs.Held.{ScanIs}
-use Rattle.forms.specs.declared.Scanned.{Scanned}
-use Rattle.forms.specs.declared.Scanned.TheVariants.{Table, Denied}
 use Rattle.postfix.proofs.Lengths.{parsed_length, parsed_place}
 use Rattle.conjunction.specs.With.{old_stop, each_stop}
+use Rattle.std.specs.Prelude.{Result, Err}
 
 -- a stop counted from 0 is as it was
 pub counted_zero : (s : Stop) → counted_from 0 s ≡ s
 counted_zero never = refl
 counted_zero (stop number place) = ap (stop number) (zero-add place)
 
--- the scan's answer as a stop
-module _ (used : ℕ) (b nodes : List ℕ) (x : Scanned) (s : ScanIs used b nodes x (parsed Mixed used b)) where
-  pub scan_sound : (n from : ℕ) → x ≡ Table n → never ≡ counted_from from (form_stop (parsed Mixed used b))
-  scan_sound n from e =
-      let t : ScanIs used b nodes (Table n) (parsed Mixed used b) = subst (λ y. ScanIs used b nodes y (parsed Mixed used b)) e s in
-      rw t.1
-
-  denied : (r : Refusal) → x ≡ Denied r → parsed Mixed used b ≡ refusal (told r).number (told r).place
+-- where the scan refuses
+module _ (used : ℕ) (b nodes : List ℕ) (x : Result ℕ Refusal) (s : ScanIs used b nodes x (parsed Mixed used b)) where
+  denied : (r : Refusal) → x ≡ Err r → parsed Mixed used b ≡ refusal (told r).number (told r).place
   denied r e = subst (λ y. ScanIs used b nodes y (parsed Mixed used b)) e s
 
-  pub scan_place : (r : Refusal) → x ≡ Denied r → (told r).place ≤ 448
+  pub scan_place : (r : Refusal) → x ≡ Err r → (told r).place ≤ 448
   scan_place r e = parsed_place Mixed used b _ _ (denied r e)
-
-  pub scan_denied : (r q : Refusal) (from : ℕ) → x ≡ Denied r → stop_of q ≡ counted_from from (stop_of r) → checked_of (Refused q) ≡ counted_from from (form_stop (parsed Mixed used b))
-  scan_denied r q from e c = rw (denied r e) c
 
 -- the old condition
 module _ (used : ℕ) where
-  pub old_empty : (old : List ℕ) → length old ≡ 0 → old_stop used old ≡ never
-  old_empty [] e = refl
-  old_empty (b ∷ old) e = absurd (let z : ⊥ = omega arith in z)
-
-  pub old_there : (old : List ℕ) → (length old ≡ 0 → ⊥) → old_stop used old ≡ form_stop (parsed Mixed used old)
-  old_there [] n = absurd (n refl)
-  old_there (b ∷ old) n = refl
-
   form_short : (b : List ℕ) → form_stop (parsed Mixed used b) ≡ never → length b ≤ 448
   form_short b e = by (parsed Mixed used b) refl e
     where

@@ -2,10 +2,11 @@
 use Rattle.std.specs.Prelude.{ℕ, List, [], ◌∷◌, ◌++◌, length}
 use Rattle.refusals.specs.Stop.{Stop, never, counted_from, or_else, first_of}
 use Rattle.writing.specs.Writing.{WrittenIs}
-use Rattle.writing.specs.declared.Written.{Written}
 use Rattle.checks.specs.Check.{room_stop, output_stop}
 use Rattle.nodes.specs.declared.Allowed.TheVariants.{Mixed}
 use Rattle.forms.specs.Form.{parsed, form_stop}
+use Rattle.std.specs.Prelude.{Result}
+use Rattle.refusals.specs.declared.Refusal.{Refusal}
 
 -- AND (48) of the old and the new one, or the new one where the old is empty
 abbrev pub conjunction : List ℕ → List ℕ → List ℕ
@@ -27,6 +28,6 @@ abbrev pub with_stop : ℕ → ℕ → ℕ → List ℕ → List ℕ → Stop
 with_stop size used output old new = or_else (each_stop size used output old new) (form_stop (parsed Mixed used (conjunction old new)))
 
 -- what `with` answers and writes
-abbrev pub WithIs : ℕ → ℕ → List ℕ → List ℕ → List ℕ → List ℕ → Written → Type 0
+abbrev pub WithIs : ℕ → ℕ → List ℕ → List ℕ → List ℕ → List ℕ → Result ℕ Refusal → Type 0
 WithIs size used old new before after answer =
     WrittenIs before after answer (with_stop size used (length before) old new) (length (conjunction old new)) (conjunction old new)

@@ -9,7 +9,7 @@ use native.Mathlib.Numerals.{add-one}
 use native.Mathlib.Omega.{arith}
 use Rattle.refusals.specs.Stop.{never, stop_if, or_else}
 use Rattle.slices.specs.Bytes.{is_equal}
-use Rattle.slices.specs.declared.Ordering.TheVariants.{Equal}
+use Rattle.std.specs.declared.cmp.Ordering.TheVariants.{Equal}
 use Rattle.tables.specs.Table.{column_count}
 use Rattle.marking.specs.Marks.{part}
 use Rattle.keys.specs.Key.{key_order}

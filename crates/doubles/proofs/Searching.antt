@@ -9,9 +9,9 @@ use lib.ListN.{length, drop, get_or}
 use lib.Seq.{get_or-take, get_or-drop}
 use denote.Enum.Declared.{tag_of}
 use types.Run.{OneOf, miss}
-use Rattle.slices.specs.declared.Ordering.{Ordering}
-use Rattle.slices.specs.declared.Ordering.TheVariants.{Equal}
-use Rattle.slices.specs.contracts.Ordering.{the_type}
+use Rattle.std.specs.contracts.cmp.Ordering.{the_type}
+use Rattle.std.specs.declared.cmp.Ordering.{Ordering}
+use Rattle.std.specs.declared.cmp.Ordering.TheVariants.{Equal}
 use Rattle.slices.proofs.Pieces.{piece_length}
 use Rattle.values.specs.Value.{value_of}
 use Rattle.values.specs.Order.{order}
@@ -36,10 +36,6 @@ ends : (rows : List ℕ) (n width : ℕ) → n * width ≤ length rows → (i : 
 ends rows n width there i h = omega (arith, row_inside n width i h)
 
 -- ---- the search
-
--- an order that is one of the other two isn't Equal
-not_equal : (o : Ordering) → OneOf (0 ∷ 2 ∷ []) (tag_of the_type o) → o ≡ Equal → ⊥
-not_equal o k e = miss (0 ∷ 2 ∷ []) 1 tt (subst (λ x. OneOf (0 ∷ 2 ∷ []) (tag_of the_type x)) e k)
 
 -- a cell that is compared is there
 pub cell_there : {columns : List ℕ} {used n : ℕ} {rows row : List ℕ} → SearchAsks columns used n rows row → (i : ℕ) → i < n → (column : ℕ) → column < column_count columns
@@ -92,3 +88,7 @@ module _ (columns stored rows row : List ℕ) where
       -- one that doesn't leaves the later ones
       pub next_column : o ≡ Equal → key_order columns stored (part rows (column_count columns) i) row ≡ from_column i (column + 1)
       next_column q = e ∙ goes_on columns stored _ row column comparable (rw full l) o here q
+
+-- an order that is one of the other two isn't Equal
+pub not_equal : (o : Ordering) → OneOf (0 ∷ 2 ∷ []) (tag_of the_type o) → o ≡ Equal → ⊥
+not_equal o k e = miss (0 ∷ 2 ∷ []) 1 tt (subst (λ x. OneOf (0 ∷ 2 ∷ []) (tag_of the_type x)) e k)

@@ -1,5 +1,6 @@
 -- Old and new rows checked for double keys, one after another: what the search for a row's key asks, and what it tells. Assumes nothing.
 use mathlib.Core.Path.{◌≡◌, sym, ap₂, ◌∙◌}
+use mathlib.Core.Bool.{Bool, true, false}
 use mathlib.Core.List.{List, ◌++◌}
 use Prim.Native.Nat.{ℕ, ◌+◌, ◌-◌, ◌*◌, ◌≤◌, ◌<◌}
 use native.Mathlib.Nat.{zero-add, mul-le-mul_right}
@@ -14,8 +15,19 @@ use Rattle.sorting.specs.Sorted.{Compare, double_stop, new_stop}
 use Rattle.sorting.specs.Rows.{compare_rows, RowsSound}
 use Rattle.sorting.proofs.Reading.{row_full, row_sound}
 use Rattle.sorting.proofs.Joined.{part_old, part_new}
-use Rattle.doubles.specs.Doubles.{SearchAsks, FirstEqual}
+use Rattle.std.specs.Prelude.{Option, Some, None, is_some}
+use Rattle.doubles.specs.Doubles.{SearchAsks, FirstEqual, FoundEqual}
 use Rattle.doubles.proofs.Among.{found, not_found, double_turn, new_turn}
+
+-- a search that finds a row, and one that finds none
+module _ {columns stored rows : List ℕ} {n : ℕ} {row : List ℕ} where
+  pub found_some : (o : Option ℕ) → is_some o ≡ true → FoundEqual columns stored rows n row o → (r : ℕ) × FirstEqual columns stored rows n row r × (r < n)
+  found_some (Some r) e h = (r, h.0, h.1)
+  found_some None e h = absurd (let z : ◌≡◌ {A = Bool} false true = e in let y : ◌≡◌ {A = ℕ} 0 1 = cc in omega arith)
+
+  pub found_none : (o : Option ℕ) → is_some o ≡ false → FoundEqual columns stored rows n row o → FirstEqual columns stored rows n row n
+  found_none (Some r) e h = absurd (let z : ◌≡◌ {A = Bool} true false = e in let y : ◌≡◌ {A = ℕ} 0 1 = cc in omega arith)
+  found_none None e h = h
 
 -- the key of a row of one table may be searched for among the first rows of another, or of the same
 pub search_asks : {columns : List ℕ} {used m n : ℕ} {searched rows : List ℕ} → RowsSound columns used m searched → RowsSound columns used n rows → (i k : ℕ) → i < n → k ≤ m

@@ -1,7 +1,7 @@
 -- New values that may not stand in their column, and rows of one key (document 01, refusals 11 to 14). Assumes nothing: these are definitions.
-use Rattle.std.specs.Prelude.{ℕ, suc, ◌+◌, ◌*◌, ◌%◌, ◌≤◌, ◌<◌, ◌≡◌, not, List, [], ◌∷◌, length, get_or}
+use Rattle.std.specs.Prelude.{Option, Some, None, ℕ, suc, ◌+◌, ◌*◌, ◌%◌, ◌≤◌, ◌<◌, ◌≡◌, not, List, [], ◌∷◌, length, get_or}
 use Rattle.refusals.specs.Stop.{Stop, never, stop_if, or_else}
-use Rattle.slices.specs.declared.Ordering.TheVariants.{Equal}
+use Rattle.std.specs.declared.cmp.Ordering.TheVariants.{Equal}
 use Rattle.values.specs.Value.{value_of}
 use Rattle.rules.specs.Rule.{is_valid_value}
 use Rattle.conditions.specs.Table.{RowSound}
@@ -24,8 +24,13 @@ pub record SearchAsks (columns : List ℕ) (used n : ℕ) (rows row : List ℕ) 
   pub rows_sound : RowSound used rows
   pub row_sound : RowSound used row
 
--- r is the first of n rows that has the key of a row, or n
+-- r is the first of n rows that has the key of a row, or n where none has
 pub record FirstEqual (columns stored rows : List ℕ) (n : ℕ) (row : List ℕ) (r : ℕ) : Type 0 where
   pub within : r ≤ n
   pub none_before : (i : ℕ) → i < r → key_order columns stored (part rows (column_count columns) i) row ≡ Equal → ⊥
   pub equal : r < n → key_order columns stored (part rows (column_count columns) r) row ≡ Equal
+
+-- what a search finds: the number of that row, or nothing
+abbrev pub FoundEqual : (columns stored rows : List ℕ) (n : ℕ) (row : List ℕ) → Option ℕ → Type 0
+FoundEqual columns stored rows n row (Some r) = FirstEqual columns stored rows n row r × (r < n)
+FoundEqual columns stored rows n row None = FirstEqual columns stored rows n row n

@@ -7,74 +7,71 @@ ghost use Rattle.conditions.specs.Table.{RowSound};
 ghost use Rattle.tables.specs.Table.{column_count};
 ghost use Rattle.sorting.specs.Sorted.{double_stop, new_stop};
 ghost use Rattle.sorting.specs.Rows.{compare_rows, RowsSound};
-ghost use Rattle.doubles.specs.Doubles.{values_stop, SearchAsks, FirstEqual};
+ghost use Rattle.doubles.specs.Doubles.{values_stop, SearchAsks, FoundEqual};
 
 use cells::ValueRef;
-use refusals::{Checked, Refusal};
-use slices::Ordering;
+use refusals::Refusal;
+use std::cmp::Ordering;
 
 // 13 for the first new cell that may not stand in its column; the place counts the new rows' words.
-pub fn check_values(columns: &[u64], stored: &[u8], rows: &[u64]) -> Checked
+pub fn check_values(columns: &[u64], stored: &[u8], rows: &[u64]) -> Result<(), Refusal>
     requires { (length columns.now ≡ 2 * column_count columns.now) × (1 ≤ column_count columns.now) × RowSound (length stored.now) rows.now }
     ensures { checked_of result ≡ values_stop columns.now stored.now 0 rows.now }
 {
     let width = columns.len() / 2;
-    let mut i: usize = 0;
-    while i < rows.len() {
+    for (i, cell) in rows.iter().enumerate() {
         let rule = columns[2 * (i % width) + 1];
-        if !rules::is_valid_value(rule, ValueRef::from_word(rows[i])) {
-            return Checked::Refused(Refusal::NotValid(i));
+        if !rules::is_valid_value(rule, ValueRef::from(*cell)) {
+            return Err(Refusal::NotValid(i));
         }
-        i += 1;
     }
-    Checked::Sound
+    Ok(())
 }
 
-// The first of so many rows that has the key of a row, or that number: a row is left as soon as a key column differs, the search as soon as an equal key is met.
-pub fn equal_row(columns: &[u64], stored: &[u8], rows: &[u64], n: usize, row: &[u64]) -> usize
+// The first of so many rows that has the key of a row: a row is left as soon as a key column differs, the search as soon as an equal key is met.
+pub fn equal_row(
+    columns: &[u64],
+    stored: &[u8],
+    rows: &[u64],
+    n: usize,
+    row: &[u64],
+) -> Option<usize>
     requires { SearchAsks columns.now (length stored.now) n rows.now row.now }
-    ensures { FirstEqual columns.now stored.now rows.now n row.now result }
+    ensures { FoundEqual columns.now stored.now rows.now n row.now result }
 {
     let width = columns.len() / 2;
-    let mut i: usize = 0;
-    'rows: while i < n {
-        let mut column: usize = 0;
-        while column < width {
+    'rows: for i in 0..n {
+        for column in 0..width {
             let Ordering::Equal = keys::compare_column(
                 columns[2 * column + 1],
                 rows[i * width + column],
                 row[column],
                 stored,
             ) else {
-                i += 1;
                 continue 'rows;
             };
-            column += 1;
         }
-        break 'rows;
+        return Some(i);
     }
-    i
+    None
 }
 
 // 14 for the first old row that has the key of an earlier one. Rows that stand in strict order have none, and one pass tells it.
-pub fn check_old(columns: &[u64], stored: &[u8], rows: &[u64], n: usize) -> Checked
+pub fn check_old(columns: &[u64], stored: &[u8], rows: &[u64], n: usize) -> Result<(), Refusal>
     requires { RowsSound columns.now (length stored.now) n rows.now }
     ensures { checked_of result ≡ double_stop (compare_rows columns.now stored.now rows.now) 0 n }
 {
     if sorting::is_ascending(columns, stored, rows, n) {
-        return Checked::Sound;
+        return Ok(());
     }
     let width = columns.len() / 2;
-    let mut i: usize = 0;
-    while i < n {
+    for i in 0..n {
         let start = i * width;
-        let earlier = equal_row(columns, stored, rows, i, &rows[start..start + width]);
-        if earlier < i {
-            return Checked::Refused(Refusal::KeyTwice(i));
+        if equal_row(columns, stored, rows, i, &rows[start..start + width]).is_some() {
+            return Err(Refusal::KeyTwice(i));
         }
-        i += 1;
     }
-    Checked::Sound
+    Ok(())
 }
 
 // For each new row: 11 where an old row has its key, then 12 where an earlier new one has.
@@ -85,22 +82,20 @@ pub fn check_new(
     m: usize,
     new: &[u64],
     n: usize,
-) -> Checked
+) -> Result<(), Refusal>
     requires { RowsSound columns.now (length stored.now) m old.now × RowsSound columns.now (length stored.now) n new.now }
     ensures { checked_of result ≡ new_stop (compare_rows columns.now stored.now (old.now ++ new.now)) m 0 n }
 {
     let width = columns.len() / 2;
-    let mut k: usize = 0;
-    while k < n {
+    for k in 0..n {
         let start = k * width;
         let row = &new[start..start + width];
-        if equal_row(columns, stored, old, m, row) < m {
-            return Checked::Refused(Refusal::KeyTaken(k));
+        if equal_row(columns, stored, old, m, row).is_some() {
+            return Err(Refusal::KeyTaken(k));
         }
-        if equal_row(columns, stored, new, k, row) < k {
-            return Checked::Refused(Refusal::KeyRepeated(k));
+        if equal_row(columns, stored, new, k, row).is_some() {
+            return Err(Refusal::KeyRepeated(k));
         }
-        k += 1;
     }
-    Checked::Sound
+    Ok(())
 }

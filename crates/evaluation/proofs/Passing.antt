@@ -18,8 +18,8 @@ use Rattle.forms.specs.Form.{tree, parsed}
 use Rattle.forms.proofs.Unique.{one_tree}
 use Rattle.straight.specs.Straight.{Straight}
 use Rattle.evaluation.specs.Evaluation.{evaluation, stops, at_zero, gave, LiesIn, EvaluatedIs}
-use Rattle.evaluation.specs.declared.Evaluated.TheVariants.{Cell}
 use Rattle.evaluation.proofs.Stopping.{row_right, at_none}
+use Rattle.std.specs.Prelude.{Ok}
 
 module _ (R : Rules) (b row text : List ℕ) (used w : ℕ) (S : Straight b row text used w) where
   marked : used ≤ length text
@@ -42,7 +42,7 @@ module _ (R : Rules) (b row text : List ℕ) (used w : ℕ) (S : Straight b row 
       let q : size S.ran.tree ≡ size t = ap size (one_tree form e) in
       record { own = λ o. absurd (omega (arith, S.ran.more)); above = λ l k. absurd (S.ran.plain k) }
 
-  pub passed : EvaluatedIs R b row text text used (Cell w)
+  pub passed : EvaluatedIs R b row text text used (Ok w)
   unfolding evaluation
   passed = record {
     kept = refl;

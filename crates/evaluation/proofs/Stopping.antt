@@ -1,5 +1,5 @@
 -- Which check stops an evaluation. Assumes nothing.
-use mathlib.Core.Path.{◌≡◌, sym, subst}
+use mathlib.Core.Path.{◌≡◌}
 use mathlib.Core.Bool.{true, false, not}
 use mathlib.Core.List.{List}
 use Prim.Native.Nat.{ℕ, ◌≤◌, ◌<◌}
@@ -12,11 +12,8 @@ use Rattle.checks.specs.Check.{room_stop, cells_stop}
 use Rattle.conditions.specs.Ast.{Tree}
 use Rattle.nodes.specs.declared.Allowed.TheVariants.{Bound}
 use Rattle.forms.specs.Form.{tree, refusal, parsed, form_stop}
-use Rattle.forms.specs.Held.{ScanIs}
-use Rattle.forms.specs.declared.Scanned.{Scanned}
-use Rattle.forms.specs.declared.Scanned.TheVariants.{Table, Denied}
 use Rattle.forms.specs.Number.{numbers_stop}
-use Rattle.evaluation.specs.Evaluation.{is_row_length, stops, PreparedIs}
+use Rattle.evaluation.specs.Evaluation.{is_row_length, stops}
 
 -- no cells are no row
 pub row_short : (n : ℕ) → n < 1 → is_row_length n ≡ false
@@ -55,21 +52,6 @@ module _ (b row : List ℕ) (size used : ℕ) where
 
           pub at_none : numbers_stop (length row) b 64 0 ≡ never → stops b row size used ≡ never
           at_none m = rw (h, c, w, f, m)
-
-        -- what the scan's answer makes of the whole
-        module _ (nodes : List ℕ) (x : Scanned) (s : ScanIs used b nodes x (parsed Bound used b)) where
-          pub prepared_denied : (r : Refusal) → x ≡ Denied r → PreparedIs b row size used nodes x
-          prepared_denied r e = subst (PreparedIs b row size used nodes) (sym e) (at_form _ _ (subst (λ y. ScanIs used b nodes y (parsed Bound used b)) e s))
-
-          module _ (n : ℕ) (e : x ≡ Table n) where
-            table : ScanIs used b nodes (Table n) (parsed Bound used b)
-            table = subst (λ y. ScanIs used b nodes y (parsed Bound used b)) e s
-
-            pub prepared_stopped : (r : Refusal) → numbers_stop (length row) b 64 0 ≡ stop_of r → stops b row size used ≡ stop_of r
-            prepared_stopped r m = at_numbers table.0 table.1 r m
-
-            pub prepared : numbers_stop (length row) b 64 0 ≡ never → PreparedIs b row size used nodes (Table n)
-            prepared m = (at_none table.0 table.1 m, table)
 
   -- where nothing stops, each check passed
   module _ (h : stops b row size used ≡ never) where

@@ -8,30 +8,29 @@ use native.Mathlib.Omega.{arith}
 use lib.ListN.{length, take, get_or}
 use lib.Seq.{take-length}
 use lib.Dec.{eqb}
-use Rattle.refusals.specs.Stop.{stop_of}
+use Rattle.refusals.specs.Stop.{stop, stop_of}
+use Rattle.refusals.specs.Told.{told}
 use Rattle.refusals.specs.declared.Refusal.{Refusal}
 use Rattle.cells.specs.Cell.{WellFormed, start_of, length_of}
 use Rattle.cells.proofs.Stops.{inside_more}
 use Rattle.values.specs.Value.{value_of}
 use Rattle.checks.proofs.Turns.{cells_sound, room_there}
-use Rattle.integers.specs.declared.Answer.{Answer}
-use Rattle.integers.specs.declared.Answer.TheVariants.{Gave, Overflow, ShiftAmount, TooLong}
 use Rattle.operators.specs.declared.Rules.{Rules}
 use Rattle.conditions.specs.Ast.{Tree, Atom, leaf, unary, binary, map_tree, eval, height, size, joins}
-use Rattle.conditions.specs.Table.{node_of, leaf_of, tree_of, row_of, leaf_cell, LeafSound, Sound, Asks, Answers, LiesAt, Lies}
+use Rattle.conditions.specs.Table.{node_of, leaf_of, tree_of, row_of, leaf_cell, LeafSound, Sound, Asks, Answers, LiesAt}
 use Rattle.conditions.specs.declared.Node.TheVariants.{Leaf}
 use Rattle.conditions.proofs.NodeKind.{leaf_self}
 use Rattle.conditions.proofs.Giving.{value_more}
 use Rattle.conditions.proofs.Walk.{height_pos}
 use Rattle.nodes.specs.Kind.{leaf_word}
 use Rattle.forms.specs.Held.{LeafHeld, Denotes}
-use Rattle.forms.specs.declared.Scanned.TheVariants.{Table}
 use Rattle.forms.proofs.Unique.{one_tree}
 use Rattle.evaluation.specs.Evaluation.{evaluation, stops, at_zero, gave, LiesIn, EvaluatedIs, PreparedIs}
-use Rattle.evaluation.specs.declared.Evaluated.{Evaluated}
-use Rattle.evaluation.specs.declared.Evaluated.TheVariants.{Cell, Refused}
 use Rattle.evaluation.proofs.Stopping.{room_passed, cells_passed, numbers_passed}
 use Rattle.evaluation.proofs.Narrowing.{Narrow, AllNarrow, parse_narrow}
+use Rattle.std.specs.Prelude.{Result, Ok, Err}
+use Rattle.integers.specs.declared.Fault.{Fault}
+use Rattle.integers.specs.Outcome.{number_of}
 
 -- the tree that evaluation walks
 pub denotes_tree : (used : ℕ) (base nodes : List ℕ) (d k : ℕ) (t : Tree ℕ) → height t ≤ d → Denotes used nodes k t → tree_of base d nodes k ≡ map_tree (leaf_of base) t
@@ -104,19 +103,12 @@ module _ (used : ℕ) (nodes b row : List ℕ) (first : get_or nodes 0 0 ≡ lea
     above = λ l. subst (λ n. LiesAt used n row w) q.1 h;
   }
 
--- what the evaluation's answer is called here
-unfoldable pub answer_of : Answer → Evaluated
-answer_of (Gave w u) = Cell w
-answer_of Overflow = Refused (Refusal.Overflow 0)
-answer_of ShiftAmount = Refused (Refusal.ShiftAmount 0)
-answer_of TooLong = Refused (Refusal.TooLong 0)
-
 -- a call that is stopped before evaluation is refused so, and its text stays
-pub denied : (R : Rules) (b row text : List ℕ) (used : ℕ) (r : Refusal) → stops b row (length text) used ≡ stop_of r → EvaluatedIs R b row text text used (Refused r)
+pub denied : (R : Rules) (b row text : List ℕ) (used : ℕ) (r : Refusal) → stops b row (length text) used ≡ stop_of r → EvaluatedIs R b row text text used (Err r)
 unfolding evaluation
 denied R b row text used r p = record { kept = refl; says = rw p }
 
-module _ (R : Rules) (limit : R.limit ≤ 1024) (b row text : List ℕ) (bytes : (i : ℕ) → get_or b i 0 < 256) (used n : ℕ) (nodes : List ℕ) (long : length nodes ≡ 64) (p : PreparedIs b row (length text) used nodes (Table n)) where
+module _ (R : Rules) (limit : R.limit ≤ 1024) (b row text : List ℕ) (bytes : (i : ℕ) → get_or b i 0 < 256) (used n : ℕ) (nodes : List ℕ) (long : length nodes ≡ 64) (p : PreparedIs b row (length text) used nodes (Ok n)) where
   abbrev t : Tree ℕ
   t = p.1.0
 
@@ -157,9 +149,9 @@ module _ (R : Rules) (limit : R.limit ≤ 1024) (b row text : List ℕ) (bytes :
   whole = rw (p.0, p.1.1, same)
 
   module _ (after : List ℕ) (size-kept : length after ≡ length text) where
-    pub evaluated : (r : Answer) → Answers R used used 16 (n - 1) nodes row text after r → Lies used (node_of (get_or nodes (n - 1) 0)) row r → EvaluatedIs R b row text after used (answer_of r)
-    unfolding answer_of size
-    evaluated (Gave w u) a l =
+    pub evaluated : (w u : ℕ) → Answers R used used 16 (n - 1) nodes row text after (Ok (w, u)) → LiesAt used (node_of (get_or nodes (n - 1) 0)) row w → EvaluatedIs R b row text after used (Ok w)
+    unfolding size
+    evaluated w u a l =
         let below : u ≤ length after = omega (arith, room, a.says.3, size-kept) in
         record {
           kept = a.kept;
@@ -169,6 +161,15 @@ module _ (R : Rules) (limit : R.limit ≤ 1024) (b row text : List ℕ) (bytes :
             λ s e. subst (λ m. LiesIn b row used m w) (ap size (one_tree p.1.1 e)) (lies_in used nodes b row p.1.7 w (n - 1) t k+1 held l),
           );
         }
-    evaluated Overflow a l = record { kept = a.kept; says = whole ∙ ap at_zero a.says }
-    evaluated ShiftAmount a l = record { kept = a.kept; says = whole ∙ ap at_zero a.says }
-    evaluated TooLong a l = record { kept = a.kept; says = whole ∙ ap at_zero a.says }
+
+    -- a fault has the place 0
+    pub faulted : (f : Fault) (r : Refusal) → stop_of r ≡ stop (number_of f) 0 → Answers R used used 16 (n - 1) nodes row text after (Err f) → EvaluatedIs R b row text after used (Err r)
+    faulted f r e a =
+        let number : (told r).number ≡ number_of f = cc in
+        let place : (told r).place ≡ 0 = cc in
+        record { kept = a.kept; says = rw (number, place) (whole ∙ ap at_zero a.says) }
+
+-- an answer that is no value is a fault
+pub among_refusals : (r : Result (ℕ × ℕ) Fault) → ((w u : ℕ) → r ≡ Ok (w, u) → ⊥) → (fault : Fault) × (r ≡ Err fault)
+among_refusals (Ok (w, u)) h = absurd (h w u refl)
+among_refusals (Err fault) h = (fault, refl)

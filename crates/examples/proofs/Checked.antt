@@ -10,8 +10,8 @@ use lib.Dec.{eqb}
 use borrow.Author.Tests.{eqb-true}
 use Rattle.refusals.proofs.Bools.{true_false}
 use Rattle.slices.specs.Bytes.{both, is_equal, by_bytes}
-use Rattle.slices.specs.declared.Ordering.{Ordering}
-use Rattle.slices.specs.declared.Ordering.TheVariants.{Less, Equal, Greater}
+use Rattle.std.specs.declared.cmp.Ordering.{Ordering}
+use Rattle.std.specs.declared.cmp.Ordering.TheVariants.{Less, Equal, Greater}
 use Rattle.values.specs.Value.{to_bool, from_bool}
 use Rattle.values.specs.Order.{order}
 use Rattle.values.proofs.Ordered.{order_equal}

@@ -5,7 +5,7 @@ use Rattle.values.specs.Value.{Value}
 use Rattle.values.specs.Order.{order}
 use Rattle.integers.specs.Outcome.{Outcome, value}
 use Rattle.operators.specs.Operator.{unary_of, binary_of, base}
-use Rattle.evaluation.specs.Evaluation.{Result, gave, evaluation}
+use Rattle.evaluation.specs.Evaluation.{Report, gave, evaluation}
 use Rattle.postfix.specs.Postfix.{bytes_of}
 use Rattle.replacing.specs.Fold.{Folding, folded}
 use Rattle.folding.specs.Call.{folding}
@@ -40,9 +40,9 @@ of_outcome (value v) = gives v
 of_outcome (Outcome.refused number) = stops number
 
 -- what one evaluation comes to
-abbrev pub of_result : Result → Expected
+abbrev pub of_result : Report → Expected
 of_result (gave v) = gives v
-of_result (Result.refused number place) = refuses number place
+of_result (Report.refused number place) = refuses number place
 
 -- what folding comes to
 abbrev pub of_folding : Folding → Expected

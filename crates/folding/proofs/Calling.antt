@@ -1,4 +1,4 @@
--- The call `fold`: which check stops it, that 32,768 bytes above the mark and 448 of output always suffice, and what its answer says. Assumes nothing.
+-- The call `fold`: that 32,768 bytes above the mark and 448 of output always suffice, and what its answer says. Assumes nothing.
 use mathlib.Core.Path.{◌≡◌, refl, sym, ap, ap₂, subst, ◌∙◌}
 use mathlib.Core.List.{List}
 use Prim.Native.Nat.{ℕ, ◌+◌, ◌-◌, ◌≤◌}
@@ -7,7 +7,7 @@ use native.Mathlib.Nat.{zero-add}
 use lib.ListN.{length, take}
 use lib.Seq.{length-take-le}
 use Rattle.refusals.specs.Told.{told}
-use Rattle.refusals.specs.Stop.{Stop, never, stop_of, or_else}
+use Rattle.refusals.specs.Stop.{never, stop_of, or_else}
 use Rattle.refusals.specs.declared.Refusal.{Refusal}
 use Rattle.refusals.proofs.First.{never_both}
 use Rattle.slices.specs.Splice.{splice, Wrote}
@@ -19,56 +19,33 @@ use Rattle.operators.specs.declared.Rules.{Rules}
 use Rattle.conditions.specs.Ast.{Tree}
 use Rattle.nodes.specs.declared.Allowed.TheVariants.{Mixed}
 use Rattle.forms.specs.Form.{parsed, form_stop}
-use Rattle.forms.specs.Held.{ScanIs}
-use Rattle.forms.specs.declared.Scanned.{Scanned}
-use Rattle.forms.specs.declared.Scanned.TheVariants.{Table, Denied}
 use Rattle.evaluation.proofs.Whole.{joins_size}
 use Rattle.postfix.specs.Postfix.{bytes_of, width}
 use Rattle.postfix.proofs.Reading.{width_size}
 use Rattle.replacing.specs.Fold.{Folding, folded, fold}
 use Rattle.replacing.specs.Walk.{FoldAsks, Gives, Says}
 use Rattle.folding.specs.Call.{fold_stop, folding, FoldIs, PreparedIs}
-use Rattle.replacing.specs.declared.Part.{Part}
-use Rattle.replacing.specs.declared.Part.TheVariants.{Folded, Refused}
-use Rattle.folding.specs.declared.Shortened.TheVariants.{Bytes}
-use Rattle.folding.specs.declared.Shortened.{Shortened}
 use Rattle.shortening.proofs.Growing.{grown}
+use Rattle.std.specs.Prelude.{Result, Ok, Err}
+use Rattle.replacing.specs.declared.Folded.{Folded}
 
--- ---- which check stops it
+-- ---- what no stop tells
 
-module _ (b : List ℕ) (size used output : ℕ) where
-  pub at_room : (r : Refusal) → room_stop 32768 size used ≡ stop_of r → fold_stop b size used output ≡ stop_of r
-  at_room r h = rw h
+module _ (b : List ℕ) (size used output : ℕ) (h : fold_stop b size used output ≡ never) where
+  room_passed : room_stop 32768 size used ≡ never
+  room_passed = (never_both (room_stop 32768 size used) _ h).0
 
-  module _ (h : room_stop 32768 size used ≡ never) where
-    after_room : fold_stop b size used output ≡ or_else (output_stop output) (or_else (form_stop (parsed Mixed used b)) never)
-    after_room = ap (λ s. or_else s (or_else (output_stop output) (or_else (form_stop (parsed Mixed used b)) never))) h
+  pub output_passed : 448 ≤ output
+  output_passed = output_there output (never_both (output_stop output) (or_else (form_stop (parsed Mixed used b)) never) (never_both (room_stop 32768 size used) _ h).1).0
 
-    after_output : (s : Stop) → output_stop output ≡ s → fold_stop b size used output ≡ or_else s (or_else (form_stop (parsed Mixed used b)) never)
-    after_output s o = after_room ∙ ap (λ s. or_else s (or_else (form_stop (parsed Mixed used b)) never)) o
-
-    pub at_output : (r : Refusal) → output_stop output ≡ stop_of r → fold_stop b size used output ≡ stop_of r
-    at_output r o = after_output (stop_of r) o
-
-    pub at_form : output_stop output ≡ never → (nodes : List ℕ) (x : Scanned) → ScanIs used b nodes x (parsed Mixed used b) → PreparedIs b size used output nodes x
-    at_form o nodes (Table n) s = (after_output never o ∙ ap (λ p. or_else (form_stop p) never) s.1, s)
-    at_form o nodes (Denied r) s = after_output never o ∙ ap (λ p. or_else (form_stop p) never) s
-
-  module _ (h : fold_stop b size used output ≡ never) where
-    room_passed : room_stop 32768 size used ≡ never
-    room_passed = (never_both (room_stop 32768 size used) _ h).0
-
-    pub output_passed : 448 ≤ output
-    output_passed = output_there output (never_both (output_stop output) (or_else (form_stop (parsed Mixed used b)) never) (never_both (room_stop 32768 size used) _ h).1).0
-
-    pub there : (size ≤ 65536) × (used + 32768 ≤ size)
-    there = room_there 32768 size used room_passed
+  pub there : (size ≤ 65536) × (used + 32768 ≤ size)
+  there = room_there 32768 size used room_passed
 
 -- ---- refused before folding
 
 -- a call that is stopped before folding is refused so, and its text and output stay
 pub denied : (R : Rules) (b text out : List ℕ) (used : ℕ) (r : Refusal) → fold_stop b (length text) used (length out) ≡ stop_of r
-    → FoldIs (folding R b (take used text) (length text) used (length out)) (take used text) text out out (Shortened.Refused r)
+    → FoldIs (folding R b (take used text) (length text) used (length out)) (take used text) text out out (Err r)
 unfolding folding
 denied R b text out used r e = rw e (record { says = refl; text = front; output = refl; room = λ t s q. absurd (let z : ◌≡◌ {A = ℕ} 0 1 = cc in omega arith) })
   where
@@ -77,7 +54,7 @@ denied R b text out used r e = rw e (record { says = refl; text = front; output 
 
 -- ---- folding
 
-module _ (R : Rules) (limit : R.limit ≤ 1024) (b text out : List ℕ) (used n : ℕ) (nodes : List ℕ) (long : length nodes ≡ 64) (p : PreparedIs b (length text) used (length out) nodes (Table n)) where
+module _ (R : Rules) (limit : R.limit ≤ 1024) (b text out : List ℕ) (used n : ℕ) (nodes : List ℕ) (long : length nodes ≡ 64) (p : PreparedIs b (length text) used (length out) nodes (Ok n)) where
   abbrev pub t : Tree ℕ
   t = p.1.0
 
@@ -108,14 +85,14 @@ module _ (R : Rules) (limit : R.limit ≤ 1024) (b text out : List ℕ) (used n 
   unfolding folding
   whole = rw (p.0, p.1.1)
 
-  module _ (space space' after : List ℕ) (r : Part) (g : Gives (take 0 space) (0 + width t) used text after space' r (fold R 0 t stored)) where
-    pub folding_refused : (x : Refusal) → r ≡ Refused x → FoldIs (folding R b stored (length text) used (length out)) stored after out out (Shortened.Refused x)
+  module _ (space space' after : List ℕ) (r : Result Folded Refusal) (g : Gives (take 0 space) (0 + width t) used text after space' r (fold R 0 t stored)) where
+    pub folding_refused : (x : Refusal) → r ≡ Err x → FoldIs (folding R b stored (length text) used (length out)) stored after out out (Err x)
     folding_refused x e =
         let f : fold R 0 t stored ≡ Folding.refused (told x).number (told x).place = subst (λ y. Says (take 0 space) (0 + width t) after space' y (fold R 0 t stored)) e g.says in
         rw (whole, f) (record { says = refl; text = ap (λ m. take m after) (length-take-le used text (omega (arith, enough.1))) ∙ g.kept; output = refl; room = λ t s q. absurd (let z : ◌≡◌ {A = ℕ} 0 1 = cc in omega arith) })
 
-    module _ (word end top next : ℕ) (e : r ≡ Folded word end top next) where
-      said : Says (take 0 space) (0 + width t) after space' (Folded word end top next) (fold R 0 t stored)
+    module _ (word end top next : ℕ) (e : r ≡ Ok (record { word = word; end = end; top = top; next = next })) where
+      said : Says (take 0 space) (0 + width t) after space' (Ok (record { word = word; end = end; top = top; next = next })) (fold R 0 t stored)
       said = subst (λ y. Says (take 0 space) (0 + width t) after space' y (fold R 0 t stored)) e g.says
 
       end_is : end ≡ width said.0
@@ -133,7 +110,7 @@ module _ (R : Rules) (limit : R.limit ≤ 1024) (b text out : List ℕ) (used n 
       pub copy_room : 0 + length (take end space') ≤ length out
       copy_room = omega (arith, ap length written, small, output_passed b (length text) used (length out) p.0)
 
-      pub folding_wrote : (q : ℕ) (out' : List ℕ) → Wrote out 0 (take end space') q out' → FoldIs (folding R b stored (length text) used (length out)) stored after out out' (Bytes end top)
+      pub folding_wrote : (q : ℕ) (out' : List ℕ) → Wrote out 0 (take end space') q out' → FoldIs (folding R b stored (length text) used (length out)) stored after out out' (Ok (end, top))
       folding_wrote q out' w =
           rw (whole, said.2) (record {
             says = ap₂ wrote end_is said.4.long;

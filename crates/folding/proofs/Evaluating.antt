@@ -19,7 +19,7 @@ use Rattle.conditions.specs.Table.{leaf_of, row_of}
 use Rattle.nodes.specs.declared.Allowed.TheVariants.{Bound, Mixed}
 use Rattle.forms.specs.Form.{parsed, form_stop, of_tree}
 use Rattle.forms.specs.Number.{numbers_stop}
-use Rattle.evaluation.specs.Evaluation.{is_row_length, stops, Result, gave, at_zero, evaluation}
+use Rattle.evaluation.specs.Evaluation.{is_row_length, stops, Report, gave, at_zero, evaluation}
 use Rattle.postfix.specs.Postfix.{bytes_of}
 use Rattle.postfix.proofs.Reading.{Readable}
 use Rattle.replacing.specs.Walk.{AllHeld}
@@ -51,9 +51,9 @@ row_longer {s} m p (w ∷ row) h =
 -- ---- an evaluation without its place
 
 -- a result without its place
-abbrev pub shown : Result → Result
+abbrev pub shown : Report → Report
 shown (gave v) = gave v
-shown (Result.refused number place) = Result.refused number 0
+shown (Report.refused number place) = Report.refused number 0
 
 -- what is looked at before it, by number: the row's length, then names and numbers of the columns
 abbrev looked : ℕ → List ℕ → Stop
@@ -82,7 +82,7 @@ module _ (R : Rules) (used : ℕ) (t : Tree ℕ) (r : Readable Mixed used t) (fe
       ∙ ap₂ or_else (bound_told used t r few low) (placeless_else numbers never ∙ ap (λ s. or_else s never) (numbers_told Mixed used (length row) t r few))))
 
   -- what it comes to: the row's length, the columns and the tree's own outcome tell it
-  evaluation_told : shown (evaluation R (bytes_of t) row stored room used) ≡ unless_stopped Result.refused (looked (length row) (columns_of t)) (at_zero (eval R (row_of stored row) (map_tree (leaf_of stored) t)))
+  evaluation_told : shown (evaluation R (bytes_of t) row stored room used) ≡ unless_stopped Report.refused (looked (length row) (columns_of t)) (at_zero (eval R (row_of stored row) (map_tree (leaf_of stored) t)))
   unfolding evaluation
   evaluation_told = by (stops (bytes_of t) row room used) refl
     where
@@ -90,7 +90,7 @@ module _ (R : Rules) (used : ℕ) (t : Tree ℕ) (r : Readable Mixed used t) (fe
       outcome x = eval R (row_of stored row) (map_tree (leaf_of stored) x)
 
       by : (s : Stop) → stops (bytes_of t) row room used ≡ s
-          → shown (unless_stopped Result.refused s (of_tree (λ x. at_zero (outcome x)) Result.refused (parsed Bound used (bytes_of t)))) ≡ unless_stopped Result.refused (looked (length row) (columns_of t)) (at_zero (outcome t))
+          → shown (unless_stopped Report.refused s (of_tree (λ x. at_zero (outcome x)) Report.refused (parsed Bound used (bytes_of t)))) ≡ unless_stopped Report.refused (looked (length row) (columns_of t)) (at_zero (outcome t))
       by never e =
           let l : looked (length row) (columns_of t) ≡ never = sym stops_told ∙ ap placeless e in
           rw (l, bound_tree used t r few low (looked_never (length row) (columns_of t) l)) (shown_outcome (outcome t))
@@ -124,5 +124,5 @@ module _ {R : Rules} {b stored : List ℕ} {room used output : ℕ} {t' : Tree �
         let c = cells_higher used (length s') 0 row (omega (arith, whole, more.longer)) cells in
         ap (λ l. shown (evaluation R l row stored room₁ used)) (sym w.1)
         ∙ evaluation_told R used A.was w.0 w.2 w.3 row stored room₁ h cells
-        ∙ ap₂ (λ c o. unless_stopped Result.refused (looked (length row) c) (at_zero o)) (sym (fold_columns R short 0 A.was t' stored s' A.folds (joins_room short bytes whole A))) eval_alike
+        ∙ ap₂ (λ c o. unless_stopped Report.refused (looked (length row) c) (at_zero o)) (sym (fold_columns R short 0 A.was t' stored s' A.folds (joins_room short bytes whole A))) eval_alike
         ∙ sym (evaluation_told R (length s') t' n.0 n.1 n.2 row s' room₂ k c)

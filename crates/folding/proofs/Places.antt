@@ -10,7 +10,7 @@ use Rattle.conditions.specs.Ast.{Tree, unary, binary}
 use Rattle.postfix.specs.Postfix.{bytes_of, width}
 use Rattle.replacing.specs.Fold.{Folding, fold}
 use Rattle.shortening.proofs.Ways.{Refuses, only, left, right, own_one, own_two, fold_refuses}
-use Rattle.replacing.proofs.Results.{Result, result_unary, result_binary}
+use Rattle.replacing.proofs.Results.{Reached, result_unary, result_binary}
 
 -- a refusal's number and place, of a tree whose bytes begin at this offset
 pub record Placed (at : ℕ) (t : Tree ℕ) (n p : ℕ) : Type 0 where
@@ -34,8 +34,8 @@ placed_in : {at at₁ n p : ℕ} {t a : Tree ℕ} → at ≤ at₁ → at₁ + w
 placed_in l m q = record { from = omega (arith, q.from); before = omega (arith, q.before); least = q.least; most = q.most }
 
 -- an operator's own refusal
-placed_own : {at n p : ℕ} {t : Tree ℕ} {o : Outcome} → at ≤ p → p < at + width t → Result o → o ≡ Outcome.refused n → Placed at t n p
-placed_own l m r e = let q = (subst Result e r).usual in record { from = l; before = m; least = q.0; most = q.1 }
+placed_own : {at n p : ℕ} {t : Tree ℕ} {o : Outcome} → at ≤ p → p < at + width t → Reached o → o ≡ Outcome.refused n → Placed at t n p
+placed_own l m r e = let q = (subst Reached e r).usual in record { from = l; before = m; least = q.0; most = q.1 }
 
 -- whatever way a tree is refused
 refuses_placed : (R : Rules) {at n p : ℕ} {t : Tree ℕ} → Refuses R at t n p → Placed at t n p

@@ -17,50 +17,49 @@ use Rattle.values.specs.Value.{Value, null, value_of}
 use Rattle.checks.specs.Check.{room_stop, cells_stop}
 use Rattle.operators.specs.declared.Rules.{Rules}
 use Rattle.conditions.specs.Ast.{Tree}
-use Rattle.evaluation.specs.Evaluation.{Result, gave, evaluation, Says, EvaluatedIs}
-use Rattle.evaluation.specs.declared.Evaluated.{Evaluated}
-use Rattle.evaluation.specs.declared.Evaluated.TheVariants.{Cell, Refused}
+use Rattle.evaluation.specs.Evaluation.{Report, gave, evaluation, Says, EvaluatedIs}
 use Rattle.postfix.specs.Postfix.{bytes_of, width}
 use Rattle.replacing.specs.Fold.{Folding, folded}
 use Rattle.folding.specs.Call.{report, folding, stored_after, output_after, FoldIs}
-use Rattle.folding.specs.declared.Shortened.TheVariants.{Bytes}
 use Rattle.folding.proofs.Calling.{there}
 use Rattle.folding.proofs.ReadBack.{Accepted, accepted}
 use Rattle.folding.proofs.Evaluating.{shown, shown_alike}
+use Rattle.std.specs.Prelude.{Result, Ok, Err}
+use Rattle.refusals.specs.declared.Refusal.{Refusal}
 
 -- ---- what two answers have in common
 
 -- both are cells of one content, each read in its text, or both are refusals of one number, at whatever places
-abbrev pub AlikeAnswers : List ℕ → List ℕ → Evaluated → Evaluated → Type 0
-AlikeAnswers text text' (Cell w) (Cell w') = value_of text w ≡ value_of text' w'
-AlikeAnswers text text' (Cell w) (Refused x) = ⊥
-AlikeAnswers text text' (Refused x) (Cell w) = ⊥
-AlikeAnswers text text' (Refused x) (Refused y) = (told x).number ≡ (told y).number
+abbrev pub AlikeAnswers : List ℕ → List ℕ → Result ℕ Refusal → Result ℕ Refusal → Type 0
+AlikeAnswers text text' (Ok w) (Ok w') = value_of text w ≡ value_of text' w'
+AlikeAnswers text text' (Ok w) (Err x) = ⊥
+AlikeAnswers text text' (Err x) (Ok w) = ⊥
+AlikeAnswers text text' (Err x) (Err y) = (told x).number ≡ (told y).number
 
 -- an answer that is not refusal 10
-abbrev pub NotTen : Evaluated → Type 0
-NotTen (Cell w) = Unit {0}
-NotTen (Refused x) = (told x).number ≡ 10 → ⊥
+abbrev pub NotTen : Result ℕ Refusal → Type 0
+NotTen (Ok w) = Unit {0}
+NotTen (Err x) = (told x).number ≡ 10 → ⊥
 
 -- the value of a result
-abbrev given : Result → Value
+abbrev given : Report → Value
 given (gave v) = v
-given (Result.refused number place) = null
+given (Report.refused number place) = null
 
 -- its number
-abbrev numbered : Result → ℕ
+abbrev numbered : Report → ℕ
 numbered (gave v) = 0
-numbered (Result.refused number place) = number
+numbered (Report.refused number place) = number
 
 -- answers to two results that are the same but for their places
-answers_alike : (b b' row text text' : List ℕ) (used mark : ℕ) (o o' : Result) (r r' : Evaluated) → shown o ≡ shown o'
+answers_alike : (b b' row text text' : List ℕ) (used mark : ℕ) (o o' : Report) (r r' : Result ℕ Refusal) → shown o ≡ shown o'
     → Says b row text used r o → Says b' row text' mark r' o' → AlikeAnswers text text' r r'
-answers_alike b b' row text text' used mark o o' (Cell w) (Cell w') e h k = ap given (sym (ap shown h.0) ∙ e ∙ ap shown k.0)
-answers_alike b b' row text text' used mark o o' (Cell w) (Refused y) e h k =
+answers_alike b b' row text text' used mark o o' (Ok w) (Ok w') e h k = ap given (sym (ap shown h.0) ∙ e ∙ ap shown k.0)
+answers_alike b b' row text text' used mark o o' (Ok w) (Err y) e h k =
     absurd (let q = sym (ap shown h.0) ∙ e ∙ ap shown k in let z : ◌≡◌ {A = ℕ} 0 1 = cc in omega arith)
-answers_alike b b' row text text' used mark o o' (Refused x) (Cell w') e h k =
+answers_alike b b' row text text' used mark o o' (Err x) (Ok w') e h k =
     absurd (let q = sym (ap shown h) ∙ e ∙ ap shown k.0 in let z : ◌≡◌ {A = ℕ} 0 1 = cc in omega arith)
-answers_alike b b' row text text' used mark o o' (Refused x) (Refused y) e h k = ap numbered (sym (ap shown h) ∙ e ∙ ap shown k)
+answers_alike b b' row text text' used mark o o' (Err x) (Err y) e h k = ap numbered (sym (ap shown h) ∙ e ∙ ap shown k)
 
 -- ---- room
 
@@ -77,16 +76,16 @@ room_by {P} needed size used = by (ltb 65536 size) (ltb size used) (ltb size (us
     by false false false f g = f refl
 
 -- an evaluation that does not get 10 has it
-room_is : (R : Rules) (b row stored text : List ℕ) (size used : ℕ) (r : Evaluated) → Says b row text used r (evaluation R b row stored size used) → NotTen r
+room_is : (R : Rules) (b row stored text : List ℕ) (size used : ℕ) (r : Result ℕ Refusal) → Says b row text used r (evaluation R b row stored size used) → NotTen r
     → room_stop 32768 size used ≡ never
 room_is R b row stored text size used r h n = room_by 32768 size used (λ e. e) (λ e. absurd (refused r (tenth e) h n))
   where
-    tenth : room_stop 32768 size used ≡ stop 10 0 → evaluation R b row stored size used ≡ Result.refused 10 0
+    tenth : room_stop 32768 size used ≡ stop 10 0 → evaluation R b row stored size used ≡ Report.refused 10 0
     tenth e = unfold evaluation in (rw e refl)
 
-    refused : (r : Evaluated) → evaluation R b row stored size used ≡ Result.refused 10 0 → Says b row text used r (evaluation R b row stored size used) → NotTen r → ⊥
-    refused (Cell w) e h n = let z : ◌≡◌ {A = ℕ} 0 1 = cc in omega arith
-    refused (Refused x) e h n = n (ap numbered (sym h ∙ e))
+    refused : (r : Result ℕ Refusal) → evaluation R b row stored size used ≡ Report.refused 10 0 → Says b row text used r (evaluation R b row stored size used) → NotTen r → ⊥
+    refused (Ok w) e h n = let z : ◌≡◌ {A = ℕ} 0 1 = cc in omega arith
+    refused (Err x) e h n = n (ap numbered (sym h ∙ e))
 
 -- ---- the calls
 
@@ -105,7 +104,7 @@ writes (Folding.refused n p) count mark e = absurd (let z : ◌≡◌ {A = ℕ} 
 
 -- folding is accepted: the condition's bytes b, the text and the output before and after, the old mark, the bytes written and the new mark
 module _ (R : Rules) (short : R.limit ≤ 1024) (b : List ℕ) (bytes : (i : ℕ) → get_or b i 0 < 256) (text after before-out after-out : List ℕ) (used count mark : ℕ)
-    (fold_is : FoldIs (folding R b (take used text) (length text) used (length before-out)) (take used text) after before-out after-out (Bytes count mark)) where
+    (fold_is : FoldIs (folding R b (take used text) (length text) used (length before-out)) (take used text) after before-out after-out (Ok (count, mark))) where
   -- what it came to
   abbrev W : Writes (folding R b (take used text) (length text) used (length before-out)) count mark
   W = writes (folding R b (take used text) (length text) used (length before-out)) count mark fold_is.says
@@ -140,7 +139,7 @@ module _ (R : Rules) (short : R.limit ≤ 1024) (b : List ℕ) (bytes : (i : ℕ
 
   -- on every row that is well formed under the old mark: the condition as it was, in any text that has the old stored text below the old mark, and the
   -- written one, in any that has the new stored text below the new mark, give answers that are alike where neither is 10
-  pub promise : (row text₁ text₁' text₂ text₂' : List ℕ) (r r' : Evaluated) → cells_stop used 0 row ≡ never
+  pub promise : (row text₁ text₁' text₂ text₂' : List ℕ) (r r' : Result ℕ Refusal) → cells_stop used 0 row ≡ never
       → take used text₁ ≡ take used text → EvaluatedIs R b row text₁ text₁' used r → NotTen r
       → take mark text₂ ≡ take mark after → EvaluatedIs R (take count after-out) row text₂ text₂' mark r' → NotTen r'
       → AlikeAnswers text₁' text₂' r r'

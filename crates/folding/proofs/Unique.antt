@@ -6,18 +6,18 @@ use lib.ListN.{length, take}
 use Rattle.writing.proofs.Reports.{same_wrote, same_denied, wrote_apart}
 use Rattle.replacing.specs.Fold.{Folding}
 use Rattle.folding.specs.Call.{report_of, stored_after, FoldIs}
-use Rattle.folding.specs.declared.Shortened.{Shortened}
-use Rattle.folding.specs.declared.Shortened.TheVariants.{Bytes, Refused}
+use Rattle.std.specs.Prelude.{Result, Ok, Err}
+use Rattle.refusals.specs.declared.Refusal.{Refusal}
 
 -- two answers that tell the same are the same
-pub one_report : (a b : Shortened) → report_of a ≡ report_of b → a ≡ b
-one_report (Bytes n m) (Bytes n' m') e = let q = same_wrote n m n' m' e in ap₂ Bytes q.0 q.1
-one_report (Bytes n m) (Refused s) e = absurd (wrote_apart n m _ _ e)
-one_report (Refused r) (Bytes n m) e = absurd (wrote_apart n m _ _ (sym e))
-one_report (Refused r) (Refused s) e = ap Refused (same_denied r s e)
+pub one_report : (a b : Result (ℕ × ℕ) Refusal) → report_of a ≡ report_of b → a ≡ b
+one_report (Ok (n, m)) (Ok (n', m')) e = let q = same_wrote n m n' m' e in ap₂ (λ x y. Ok (x, y)) q.0 q.1
+one_report (Ok (n, m)) (Err s) e = absurd (wrote_apart n m _ _ e)
+one_report (Err r) (Ok (n, m)) e = absurd (wrote_apart n m _ _ (sym e))
+one_report (Err r) (Err s) e = ap Err (same_denied r s e)
 
 -- the answer, the output, and the text below the mark that is told
-pub one_fold : (f : Folding) (stored after after' before-out after-out after-out' : List ℕ) (a b : Shortened)
+pub one_fold : (f : Folding) (stored after after' before-out after-out after-out' : List ℕ) (a b : Result (ℕ × ℕ) Refusal)
     → FoldIs f stored after before-out after-out a → FoldIs f stored after' before-out after-out' b
     → (a ≡ b) × (after-out ≡ after-out') × (take (length (stored_after f stored)) after ≡ take (length (stored_after f stored)) after')
 one_fold f stored after after' before-out after-out after-out' a b h k =

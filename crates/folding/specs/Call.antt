@@ -10,12 +10,10 @@ use Rattle.conditions.specs.Ast.{Tree}
 use Rattle.nodes.specs.declared.Allowed.TheVariants.{Mixed}
 use Rattle.forms.specs.Form.{parsed, form_stop, of_tree}
 use Rattle.forms.specs.Held.{ScanIs}
-use Rattle.forms.specs.declared.Scanned.{Scanned}
-use Rattle.forms.specs.declared.Scanned.TheVariants.{Table, Denied}
 use Rattle.postfix.specs.Postfix.{bytes_of, width}
 use Rattle.replacing.specs.Fold.{Folding, folded, fold}
-use Rattle.folding.specs.declared.Shortened.{Shortened}
-use Rattle.folding.specs.declared.Shortened.TheVariants.{Bytes, Refused}
+use Rattle.std.specs.Prelude.{Result, Ok, Err}
+use Rattle.refusals.specs.declared.Refusal.{Refusal}
 
 -- all that is looked at before folding; size is the text buffer's
 abbrev pub fold_stop : List ℕ → ℕ → ℕ → ℕ → Stop
@@ -27,9 +25,9 @@ folding R b stored size used output =
     unless_stopped Folding.refused (fold_stop b size used output) (of_tree (λ t. fold R 0 t stored) Folding.refused (parsed Mixed used b))
 
 -- what an answer tells: bytes written and the new mark, or a refusal's number and place
-abbrev pub report_of : Shortened → Report
-report_of (Bytes count mark) = wrote count mark
-report_of (Refused r) = Report.refused (told r).number (told r).place
+abbrev pub report_of : Result (ℕ × ℕ) Refusal → Report
+report_of (Ok (count, mark)) = wrote count mark
+report_of (Err r) = Report.refused (told r).number (told r).place
 
 -- what is to be told of a folding: the folded bytes' length, and the mark after the text that was appended
 abbrev pub report : Folding → Report
@@ -47,13 +45,13 @@ output_after (folded t s) before = splice before 0 (bytes_of t)
 output_after (Folding.refused number place) before = before
 
 -- an answer with the text and the output after it, where the call comes to this folding
-pub record FoldIs (f : Folding) (stored after before-out after-out : List ℕ) (answer : Shortened) : Type 0 where
+pub record FoldIs (f : Folding) (stored after before-out after-out : List ℕ) (answer : Result (ℕ × ℕ) Refusal) : Type 0 where
   pub says : report_of answer ≡ report f
   pub text : take (length (stored_after f stored)) after ≡ stored_after f stored
   pub output : after-out ≡ output_after f before-out
   pub room : (t : Tree ℕ) (s : List ℕ) → f ≡ folded t s → width t ≤ length before-out
 
 -- what is prepared for folding: nothing stops it and the table holds the tree, or what stops it
-abbrev pub PreparedIs : List ℕ → ℕ → ℕ → ℕ → List ℕ → Scanned → Type 0
-PreparedIs b size used output nodes (Table n) = (fold_stop b size used output ≡ never) × ScanIs used b nodes (Table n) (parsed Mixed used b)
-PreparedIs b size used output nodes (Denied r) = fold_stop b size used output ≡ stop_of r
+abbrev pub PreparedIs : List ℕ → ℕ → ℕ → ℕ → List ℕ → Result ℕ Refusal → Type 0
+PreparedIs b size used output nodes (Ok n) = (fold_stop b size used output ≡ never) × ScanIs used b nodes (Ok n) (parsed Mixed used b)
+PreparedIs b size used output nodes (Err r) = fold_stop b size used output ≡ stop_of r

@@ -1,27 +1,14 @@
 -- Refusal 4 from an offset on: a turn of a loop over the nodes, and its ends. Assumes nothing.
-use mathlib.Core.Path.{◌≡◌, refl, sym, ap, ◌∙◌}
+use mathlib.Core.Path.{◌≡◌, refl, ap, ◌∙◌}
 use mathlib.Core.Bool.{true, false}
 use mathlib.Core.List.{List}
 use Prim.Native.Nat.{ℕ, zero, suc, ◌+◌, ◌-◌, ◌≤◌, ◌<◌}
 use native.Mathlib.Omega.{arith}
-use lib.ListN.{length, get_or, get_or-eq_default}
-use lib.Dec.{leb}
-use borrow.Author.Tests.{lt-ltb, le-ltb, eq-eqb, ne_eqb}
+use lib.ListN.{length, get_or}
+use borrow.Author.Tests.{lt-ltb, le-ltb}
 use Rattle.refusals.specs.Stop.{never, stop}
 use Rattle.nodes.specs.Kind.{body_of}
 use Rattle.forms.specs.Number.{is_missing, numbers_stop}
-
--- one node, its kind read
-module _ (width : ℕ) (b : List ℕ) (at k : ℕ) (r : k ≡ get_or b at 0) where
-  pub other_kind : (k ≡ 4 → ⊥) → false ≡ is_missing width b at
-  other_kind h = rw (ne_eqb (get_or b at 0) 4 (λ e. h (r ∙ e)))
-
-  module _ (e : k ≡ 4) where
-    pub number_cut : length b ≤ at + 1 → leb width 0 ≡ is_missing width b at
-    number_cut h = rw (eq-eqb (get_or b at 0) 4 (sym r ∙ e), get_or-eq_default b 0 h)
-
-    pub number_read : (c : ℕ) → c ≡ get_or b (at + 1) 0 → leb width c ≡ is_missing width b at
-    number_read c q = rw (eq-eqb (get_or b at 0) 4 (sym r ∙ e), q)
 
 module _ (width : ℕ) (b : List ℕ) where
   pub numbers_end : (f at : ℕ) → length b ≤ at → numbers_stop width b f at ≡ never

@@ -16,9 +16,8 @@ use Rattle.refusals.specs.declared.Refusal.{Refusal}
 use Rattle.nodes.specs.Kind.{leaf_word}
 use Rattle.nodes.specs.declared.Allowed.{Allowed}
 use Rattle.forms.specs.Held.{Held, Marks, StepIs, StepFine, ScanIs}
+use Rattle.std.specs.Prelude.{Result, Ok, Err}
 use Rattle.forms.specs.declared.Step.{Step}
-use Rattle.forms.specs.declared.Step.TheVariants.{Took, Refused}
-use Rattle.forms.specs.declared.Scanned.TheVariants.{Table}
 
 -- the tables hold the trees of the n nodes that were read so far. The invariant of the loop over the nodes
 pub record Scanning (form : Allowed) (used : ℕ) (b nodes starts deeps : List ℕ) (n at : ℕ) : Type 0 where
@@ -83,20 +82,17 @@ module _ (form : Allowed) (used : ℕ) (b nodes starts deeps : List ℕ) (n at :
         let q : 64 - n ≡ suc (64 - (n + 1)) = omega (arith, small) in
         S.same.2 ∙ ap (λ f. parse form used b f at S.same.0) q ∙ parse_more form used b (64 - (n + 1)) at S.same.0 h
 
-    module _ (r : Step) (fine : StepFine at n b r)
+    module _ (r : Result Step Refusal) (fine : StepFine at n b r)
         (is : (nodes : List ℕ) (s : List (Tree ℕ)) → length nodes ≡ 64 → Held used nodes starts deeps n s → StepIs used nodes starts deeps n r (node_at form used b at (get_or b at 0) s)) where
-      pub scan_refused : (x : Refusal) → r ≡ Refused x → parsed form used b ≡ refusal (told x).number (told x).place
+      pub scan_refused : (x : Refusal) → r ≡ Err x → parsed form used b ≡ refusal (told x).number (told x).place
       scan_refused x p =
           let m : node_at form used b at (get_or b at 0) S.same.0 ≡ stop (told x).number = rw p at (is nodes S.same.0 S.long S.same.1) in
           let f : (told x).place ≡ at = rw p at fine in
           next_is ∙ rw (m, f)
 
-      module _ (w a d next : ℕ) (p : r ≡ Took w a d next) where
+      module _ (w a d next : ℕ) (p : r ≡ Ok (record { word = w; start = a; deep = d; next = next })) where
         goes : (a ≤ n) × (d ≤ 16) × (at < next) × (next ≤ length b) × (n ≡ 0 → w ≡ leaf_word b at (get_or b at 0))
         goes = rw p at fine
-
-        pub scan_less : length b - next < length b - at
-        scan_less = omega (arith, goes.2, goes.3)
 
         -- the first word is the first leaf's: it is stored now, or was before
         first_word : get_or (set nodes n w) 0 0 ≡ leaf_word b 0 (get_or b 0 0)
@@ -124,7 +120,7 @@ module _ (form : Allowed) (used : ℕ) (b nodes starts deeps : List ℕ) (n at :
                 (λ i q. rw (get_or-set_other deeps n i d 0 (omega arith)) (S.marks.shallow i q)) (rw (get_or-set_same deeps n d 0 (omega (arith, S.marks.deeps_long, small))) goes.1);
           };
           same =
-              let m : StepIs used nodes starts deeps n (Took w a d next) (node_at form used b at (get_or b at 0) S.same.0) = rw p at (is nodes S.same.0 S.long S.same.1) in
+              let m : StepIs used nodes starts deeps n (Ok (record { word = w; start = a; deep = d; next = next })) (node_at form used b at (get_or b at 0) S.same.0) = rw p at (is nodes S.same.0 S.long S.same.1) in
               (m.0 ∷ m.1, m.3, next_is ∙ ap (λ y. follow y at (λ s' q. parse form used b (64 - (n + 1)) q s')) m.2);
         }
 
@@ -148,10 +144,10 @@ module _ (form : Allowed) (used : ℕ) (b nodes starts deeps : List ℕ) (n at :
         by (t ∷ []) d = absurd (f (unfold Held in d.4))
         by (t ∷ (u ∷ s)) d = refl
 
-    pub scan_one : (n ≡ 0 → ⊥) → get_or starts (n - 1) 0 ≡ 0 → ScanIs used b nodes (Table n) (parsed form used b)
+    pub scan_one : (n ≡ 0 → ⊥) → get_or starts (n - 1) 0 ≡ 0 → ScanIs used b nodes (Ok n) (parsed form used b)
     scan_one e f = by S.same.0 S.same.1 ended
       where
-        by : (s : List (Tree ℕ)) → Held used nodes starts deeps n s → parsed form used b ≡ finish s at → ScanIs used b nodes (Table n) (parsed form used b)
+        by : (s : List (Tree ℕ)) → Held used nodes starts deeps n s → parsed form used b ≡ finish s at → ScanIs used b nodes (Ok n) (parsed form used b)
         by [] d q = absurd (e (unfold Held in d))
         by (t ∷ []) d q =
             let z : 0 < n = pos_of_ne-zero e in

@@ -3,7 +3,7 @@ use mathlib.Core.Path.{◌≡◌, refl, sym, ap, ap₂, ◌∙◌, subst}
 use mathlib.Core.List.{List, [], ◌∷◌}
 use Prim.Native.Nat.{ℕ, ◌+◌, ◌-◌, ◌*◌, ◌^◌, ◌/◌, ◌%◌, ◌≤◌, ◌<◌, max}
 use native.Mathlib.Omega.{arith}
-use native.Mathlib.Nat.{add-sub_cancel, pos_of_ne-zero}
+use native.Mathlib.Nat.{add-sub_cancel}
 use lib.ListN.{length, get_or, set}
 use lib.Seq.{get_or-set_same, get_or-set_other}
 use borrow.Author.Tests.{le-leb, lt-leb}
@@ -14,7 +14,7 @@ use Rattle.conditions.proofs.NodeKind.{node_leaf, node_one, node_two}
 use Rattle.conditions.proofs.Walk.{size_pos}
 use Rattle.forms.specs.Form.{stop, on_one, on_two}
 use Rattle.forms.specs.Held.{LeafHeld, Denotes, Held, Marks, StepIs}
-use Rattle.forms.specs.declared.Step.TheVariants.{Took}
+use Rattle.std.specs.Prelude.{Ok}
 
 -- the node of a unary operator's word
 one_node : (k : ℕ) → 16 ≤ k → k < 32 → node_of (k * 2 ^ 56) ≡ One k
@@ -121,7 +121,7 @@ module _ (used : ℕ) (nodes starts deeps : List ℕ) (n : ℕ) (small : n < 64)
   one_deep k next (a ∷ s) e d h = rw (lt-leb (height a + 1) 16 (omega (arith, h.2)))
 
   pub one_step : (k next : ℕ) (s : List (Tree ℕ)) → 16 ≤ k → k < 19 → (n ≡ 0 → ⊥) → get_or deeps (n - 1) 0 < 16 → Held used nodes starts deeps n s →
-      StepIs used nodes starts deeps n (Took (k * 2 ^ 56) (get_or starts (n - 1) 0) (get_or deeps (n - 1) 0 + 1) next) (on_one k s next)
+      StepIs used nodes starts deeps n (Ok (record { word = k * 2 ^ 56; start = get_or starts (n - 1) 0; deep = get_or deeps (n - 1) 0 + 1; next = next })) (on_one k s next)
   unfolding height
   one_step k next [] l u e d h = absurd (e (unfold Held in h))
   one_step k next (a ∷ s) l u e d h =
@@ -156,32 +156,14 @@ module _ (used : ℕ) (nodes starts deeps : List ℕ) (n : ℕ) (small : n < 64)
             rw (lt-leb (max (height a) (height b) + 1) 16 (omega arith))
 
     pub two_step : 32 ≤ k → k < 50 → higher < 16 →
-        StepIs used nodes starts deeps n (Took (k * 2 ^ 56 + (get_or starts (n - 1) 0 - 1)) (get_or starts (get_or starts (n - 1) 0 - 1) 0) (higher + 1) next) (on_two k s next)
+        StepIs used nodes starts deeps n (Ok (record { word = k * 2 ^ 56 + (get_or starts (n - 1) 0 - 1); start = get_or starts (get_or starts (n - 1) 0 - 1) 0; deep = higher + 1; next = next })) (on_two k s next)
     unfolding height
     two_step l u d = by s h
       where
         by : (s : List (Tree ℕ)) → Held used nodes starts deeps n s →
-            StepIs used nodes starts deeps n (Took (k * 2 ^ 56 + (get_or starts (n - 1) 0 - 1)) (get_or starts (get_or starts (n - 1) 0 - 1) 0) (higher + 1) next) (on_two k s next)
+            StepIs used nodes starts deeps n (Ok (record { word = k * 2 ^ 56 + (get_or starts (n - 1) 0 - 1); start = get_or starts (get_or starts (n - 1) 0 - 1) 0; deep = higher + 1; next = next })) (on_two k s next)
         by [] h = absurd (e (unfold Held in h))
         by (b ∷ []) h = absurd (r (unfold Held in h.4))
         by (b ∷ (a ∷ s)) h =
             let q : higher ≡ max (height a) (height b) = unfold Held in ap₂ max h.4.2 h.2 in
             (binary k a b, s, rw (le-leb (max (height a) (height b) + 1) 16 (omega arith)), two_held k a b s l u h)
-
--- the tables as numbers
-module _ (starts deeps : List ℕ) (n : ℕ) where
-  pub marks_start : Marks starts deeps n → (n ≡ 0 → ⊥) → get_or starts (n - 1) 0 ≤ n
-  marks_start M e = let h : 0 < n = pos_of_ne-zero e in omega (arith, M.below (n - 1) (omega arith))
-
-  module _ (small : n < 64) (M : Marks starts deeps n) (e : n ≡ 0 → ⊥) (r : get_or starts (n - 1) 0 ≡ 0 → ⊥) where
-    left_below : get_or starts (n - 1) 0 - 1 < n
-    left_below =
-        let h : 0 < n = pos_of_ne-zero e in
-        let g : 0 < get_or starts (n - 1) 0 = pos_of_ne-zero r in
-        omega (arith, M.below (n - 1) (omega arith))
-
-    pub marks_left : (get_or starts (n - 1) 0 - 1 < 64) × (get_or starts (n - 1) 0 - 1 < length deeps) × (get_or starts (n - 1) 0 - 1 < length starts)
-    marks_left = (omega (arith, left_below), omega (arith, left_below, M.deeps_long), omega (arith, left_below, M.starts_long))
-
-    pub marks_left_start : get_or starts (get_or starts (n - 1) 0 - 1) 0 ≤ n
-    marks_left_start = omega (arith, left_below, M.below (get_or starts (n - 1) 0 - 1) left_below)

@@ -10,16 +10,12 @@ use Rattle.conditions.specs.Ast.{Tree, leaf}
 use Rattle.forms.specs.Form.{go, stop, on_one, on_two, node_at}
 use Rattle.nodes.specs.Kind.{known, body_of, leaf_word, text_fits}
 use Rattle.nodes.specs.declared.Allowed.{Allowed}
-use Rattle.forms.specs.Held.{Held, Marks, StepIs, StepFine, OperatorFine}
-use Rattle.forms.specs.declared.Step.{Step}
-use Rattle.forms.specs.declared.Step.TheVariants.{Took, Refused}
+use Rattle.forms.specs.Held.{Held, Marks, StepIs}
 use Rattle.forms.proofs.Stack.{leaf_held}
 use Rattle.forms.proofs.Words.{fine}
-
--- an operator's step is fine as a step that goes on within the bytes
-pub fine_step : (at n next : ℕ) (b : List ℕ) (r : Step) → at < next → next ≤ length b → OperatorFine at n next r → StepFine at n b r
-fine_step at n next b (Took w a e after) l h f = (f.0, f.1, rw f.2 l, rw f.2 h, λ z. absurd (f.3 z))
-fine_step at n next b (Refused r) l h f = f
+use Rattle.std.specs.Prelude.{Result, Ok}
+use Rattle.forms.specs.declared.Step.{Step}
+use Rattle.refusals.specs.declared.Refusal.{Refusal}
 
 module _ (form : Allowed) (used at : ℕ) (b : List ℕ) (k : ℕ) (e : k ≡ get_or b at 0) (s : List (Tree ℕ)) where
   pub unknown : known form k ≡ false → node_at form used b at (get_or b at 0) s ≡ stop 1
@@ -50,18 +46,18 @@ module _ (form : Allowed) (used at : ℕ) (b : List ℕ) (k : ℕ) (e : k ≡ ge
 
       pub leaf_step : (nodes starts deeps : List ℕ) (n next w : ℕ) → n < 64 → Marks starts deeps n → length nodes ≡ 64 → ((i : ℕ) → get_or b i 0 < 256) →
           k < 16 → text_fits used b at k ≡ true → next ≡ at + 1 + body_of k → w ≡ leaf_word b at k → Held used nodes starts deeps n s →
-          StepIs used nodes starts deeps n (Took w n 1 next) (node_at form used b at (get_or b at 0) s)
+          StepIs used nodes starts deeps n (Ok (record { word = w; start = n; deep = 1; next = next })) (node_at form used b at (get_or b at 0) s)
       leaf_step nodes starts deeps n next w small M long B u f p q d =
           let g = fine form used at b B k u h f in
           rw (q, p) (leaf (leaf_word b at k), s, to_leaf u f, leaf_held used nodes starts deeps n small M long (leaf_word b at k) s g.0 g.1 d)
 
       -- a step of an operator, from what it says of its own case
-      pub two_is : (nodes starts deeps : List ℕ) (n body : ℕ) (r : Step) → body ≡ body_of k → 32 ≤ k →
+      pub two_is : (nodes starts deeps : List ℕ) (n body : ℕ) (r : Result Step Refusal) → body ≡ body_of k → 32 ≤ k →
           StepIs used nodes starts deeps n r (on_two k s (at + 1 + body)) → StepIs used nodes starts deeps n r (node_at form used b at (get_or b at 0) s)
       two_is nodes starts deeps n body r q u p =
           subst (StepIs used nodes starts deeps n r) (ap (λ x. on_two k s (at + 1 + x)) q ∙ sym (to_two u)) p
 
-      pub one_is : (nodes starts deeps : List ℕ) (n body : ℕ) (r : Step) → body ≡ body_of k → 16 ≤ k → k < 32 →
+      pub one_is : (nodes starts deeps : List ℕ) (n body : ℕ) (r : Result Step Refusal) → body ≡ body_of k → 16 ≤ k → k < 32 →
           StepIs used nodes starts deeps n r (on_one k s (at + 1 + body)) → StepIs used nodes starts deeps n r (node_at form used b at (get_or b at 0) s)
       one_is nodes starts deeps n body r q u v p =
           subst (StepIs used nodes starts deeps n r) (ap (λ x. on_one k s (at + 1 + x)) q ∙ sym (to_one u v)) p

@@ -7,10 +7,9 @@ use Rattle.conditions.specs.Ast.{Tree, leaf, unary, binary, height, size}
 use Rattle.conditions.specs.Table.{node_of}
 use Rattle.conditions.specs.declared.Node.TheVariants.{Leaf, One, Two}
 use Rattle.forms.specs.Form.{Parsed, tree, refusal, Move, go, stop}
+use Rattle.std.specs.Prelude.{Result, Ok, Err}
 use Rattle.forms.specs.declared.Step.{Step}
-use Rattle.forms.specs.declared.Step.TheVariants.{Took, Refused}
-use Rattle.forms.specs.declared.Scanned.{Scanned}
-use Rattle.forms.specs.declared.Scanned.TheVariants.{Table, Denied}
+use Rattle.refusals.specs.declared.Refusal.{Refusal}
 
 -- a literal is well formed below the mark, a name ends at or before it
 unfoldable pub LeafHeld : ℕ → ℕ → Type 0
@@ -38,25 +37,25 @@ pub record Marks (starts deeps : List ℕ) (n : ℕ) : Type 0 where
   pub shallow : (i : ℕ) → i < n → get_or deeps i 0 ≤ 16
 
 -- what one step of the scan says of the definition's move, whatever the stack that the tables hold
-abbrev pub StepIs : ℕ → List ℕ → List ℕ → List ℕ → ℕ → Step → Move → Type 0
-StepIs used nodes starts deeps n (Took word start deep next) m =
-    (t : Tree ℕ) × (s : List (Tree ℕ)) × (m ≡ go (t ∷ s) next) × Held used (set nodes n word) (set starts n start) (set deeps n deep) (n + 1) (t ∷ s)
-StepIs used nodes starts deeps n (Refused r) m = m ≡ stop (told r).number
+abbrev pub StepIs : ℕ → List ℕ → List ℕ → List ℕ → ℕ → Result Step Refusal → Move → Type 0
+StepIs used nodes starts deeps n (Ok step) m =
+    (t : Tree ℕ) × (s : List (Tree ℕ)) × (m ≡ go (t ∷ s) step.next) × Held used (set nodes n step.word) (set starts n step.start) (set deeps n step.deep) (n + 1) (t ∷ s)
+StepIs used nodes starts deeps n (Err r) m = m ≡ stop (told r).number
 
 -- and as numbers: it goes on, within the bytes, or is refused at this offset; the first node is a leaf, and its word is read off the bytes
-abbrev pub StepFine : ℕ → ℕ → List ℕ → Step → Type 0
-StepFine at n b (Took word start deep next) =
-    (start ≤ n) × (deep ≤ 16) × (at < next) × (next ≤ length b) × (n ≡ 0 → word ≡ leaf_word b at (get_or b at 0))
-StepFine at n b (Refused r) = (told r).place ≡ at
+abbrev pub StepFine : ℕ → ℕ → List ℕ → Result Step Refusal → Type 0
+StepFine at n b (Ok step) =
+    (step.start ≤ n) × (step.deep ≤ 16) × (at < step.next) × (step.next ≤ length b) × (n ≡ 0 → step.word ≡ leaf_word b at (get_or b at 0))
+StepFine at n b (Err r) = (told r).place ≡ at
 
 -- the same of an operator, which is never the first node
-abbrev pub OperatorFine : ℕ → ℕ → ℕ → Step → Type 0
-OperatorFine at n next (Took word start deep after) = (start ≤ n) × (deep ≤ 16) × (after ≡ next) × (n ≡ 0 → ⊥)
-OperatorFine at n next (Refused r) = (told r).place ≡ at
+abbrev pub OperatorFine : ℕ → ℕ → ℕ → Result Step Refusal → Type 0
+OperatorFine at n next (Ok step) = (step.start ≤ n) × (step.deep ≤ 16) × (step.next ≡ next) × (n ≡ 0 → ⊥)
+OperatorFine at n next (Err r) = (told r).place ≡ at
 
 -- what the whole scan says of the definition; the first word of the table is that of the first leaf
-abbrev pub ScanIs : ℕ → List ℕ → List ℕ → Scanned → Parsed → Type 0
-ScanIs used b nodes (Table n) p =
+abbrev pub ScanIs : ℕ → List ℕ → List ℕ → Result ℕ Refusal → Parsed → Type 0
+ScanIs used b nodes (Ok n) p =
     (t : Tree ℕ) × (p ≡ tree t) × (0 < n) × (size t ≡ n) × (n ≤ 64) × (height t ≤ 16) × Denotes used nodes (n - 1) t
     × (get_or nodes 0 0 ≡ leaf_word b 0 (get_or b 0 0))
-ScanIs used b nodes (Denied r) p = p ≡ refusal (told r).number (told r).place
+ScanIs used b nodes (Err r) p = p ≡ refusal (told r).number (told r).place

@@ -1,7 +1,7 @@
 // The form of a condition: one scan of its postfix bytes into the table of nodes that evaluation walks.
 #![tactic(auto)]
 
-ghost use Rattle.std.specs.Prelude.{◌≡◌, List, ℕ, ◌+◌, ◌*◌, ◌<◌, ◌≤◌, max, length, get_or};
+ghost use Rattle.std.specs.Prelude.{◌≡◌, List, ℕ, ◌+◌, ◌*◌, ◌<◌, ◌≤◌, length, get_or};
 ghost use Rattle.conditions.specs.Ast.{Tree};
 ghost use Rattle.forms.specs.Form.{on_one, on_two, node_at, parsed};
 ghost use Rattle.forms.specs.Held.{Held, Marks, StepIs, StepFine, OperatorFine, ScanIs};
@@ -9,80 +9,77 @@ ghost use Rattle.forms.specs.Held.{Held, Marks, StepIs, StepFine, OperatorFine, 
 use nodes::Allowed;
 use refusals::Refusal;
 
-// One step: a node's word, where its tree starts, its height and the next offset; or a refusal.
+// One step: a node's word, where its tree starts, its height and the next offset.
 #[derive(Clone, Copy)]
-pub enum Step {
-    Took {
-        word: u64,
-        start: usize,
-        deep: usize,
-        next: usize,
-    },
-    Refused(Refusal),
-}
-
-// The number of nodes in the table, or a refusal.
-#[derive(Clone, Copy)]
-pub enum Scanned {
-    Table(usize),
-    Denied(Refusal),
-}
-
-// The larger of two numbers.
-fn larger(a: usize, b: usize) -> usize
-    ensures { result ≡ max a b }
-{
-    if a < b { b } else { a }
+pub struct Step {
+    pub word: u64,
+    pub start: usize,
+    pub deep: usize,
+    pub next: usize,
 }
 
 // A one-sided operator on the top of the stack.
-fn scan_one(k: u64, at: usize, next: usize, starts: &[usize], deeps: &[usize], n: usize) -> Step
+fn scan_one(
+    k: u64,
+    at: usize,
+    next: usize,
+    starts: &[usize],
+    deeps: &[usize],
+    n: usize,
+) -> Result<Step, Refusal>
     requires { ((16 ≤ k) × (k < 19)) × ((n < 64) × Marks starts.now deeps.now n) }
     ensures fine { OperatorFine at n next result }
     ensures is { (used : ℕ) (nodes : List ℕ) (s : List (Tree ℕ)) → length nodes ≡ 64 → Held used nodes starts.now deeps.now n s →
         StepIs used nodes starts.now deeps.now n result (on_one k s next) }
 {
     if n == 0 {
-        return Step::Refused(Refusal::NotACondition(at));
+        return Err(Refusal::NotACondition(at));
     }
     let start = starts[n - 1];
     let deep = deeps[n - 1];
     if 16 <= deep {
-        return Step::Refused(Refusal::TooLarge(at));
+        return Err(Refusal::TooLarge(at));
     }
-    Step::Took {
+    Ok(Step {
         word: k * 0x100_0000_0000_0000,
         start,
         deep: deep + 1,
         next,
-    }
+    })
 }
 
 // A two-sided operator on the top two of the stack.
-fn scan_two(k: u64, at: usize, next: usize, starts: &[usize], deeps: &[usize], n: usize) -> Step
+fn scan_two(
+    k: u64,
+    at: usize,
+    next: usize,
+    starts: &[usize],
+    deeps: &[usize],
+    n: usize,
+) -> Result<Step, Refusal>
     requires { ((32 ≤ k) × (k < 50)) × ((n < 64) × Marks starts.now deeps.now n) }
     ensures fine { OperatorFine at n next result }
     ensures is { (used : ℕ) (nodes : List ℕ) (s : List (Tree ℕ)) → length nodes ≡ 64 → Held used nodes starts.now deeps.now n s →
         StepIs used nodes starts.now deeps.now n result (on_two k s next) }
 {
     if n == 0 {
-        return Step::Refused(Refusal::NotACondition(at));
+        return Err(Refusal::NotACondition(at));
     }
     let right = starts[n - 1];
     if right == 0 {
-        return Step::Refused(Refusal::NotACondition(at));
+        return Err(Refusal::NotACondition(at));
     }
     let l = right - 1;
-    let higher = larger(deeps[l], deeps[n - 1]);
+    let higher = deeps[l].max(deeps[n - 1]);
     if 16 <= higher {
-        return Step::Refused(Refusal::TooLarge(at));
+        return Err(Refusal::TooLarge(at));
     }
-    Step::Took {
+    Ok(Step {
         word: k * 0x100_0000_0000_0000 + l as u64,
         start: starts[l],
         deep: higher + 1,
         next,
-    }
+    })
 }
 
 // One node of the scan.
@@ -94,7 +91,7 @@ fn scan_node(
     starts: &[usize],
     deeps: &[usize],
     n: usize,
-) -> Step
+) -> Result<Step, Refusal>
     requires { (at < length b.now) × ((n < 64) × Marks starts.now deeps.now n) }
     ensures fine { StepFine at n b.now result }
     ensures is { (nodes : List ℕ) (s : List (Tree ℕ)) → length nodes ≡ 64 → Held used nodes starts.now deeps.now n s →
@@ -102,11 +99,11 @@ fn scan_node(
 {
     let k = nodes::wide(b[at]);
     if !nodes::is_known(form, k) {
-        return Step::Refused(Refusal::NotACondition(at));
+        return Err(Refusal::NotACondition(at));
     }
     let body = nodes::body_of(k);
     if b.len() - (at + 1) < body {
-        return Step::Refused(Refusal::NotACondition(at));
+        return Err(Refusal::NotACondition(at));
     }
     let next = at + 1 + body;
     if 32 <= k {
@@ -116,18 +113,18 @@ fn scan_node(
         return scan_one(k, at, next, starts, deeps, n);
     }
     if !nodes::text_fits(b, at, k, used) {
-        return Step::Refused(Refusal::TextOutside(at));
+        return Err(Refusal::TextOutside(at));
     }
-    Step::Took {
+    Ok(Step {
         word: nodes::leaf_word(b, at, k),
         start: n,
         deep: 1,
         next,
-    }
+    })
 }
 
 // The whole scan: the table of nodes, or the first refusal.
-pub fn scan(form: Allowed, b: &[u8], used: usize, nodes: &mut [u64]) -> Scanned
+pub fn scan(form: Allowed, b: &[u8], used: usize, nodes: &mut [u64]) -> Result<usize, Refusal>
     requires { length nodes.old ≡ 64 }
     ensures { ScanIs used b.now nodes.new result (parsed form used b.now) }
 {
@@ -135,34 +132,23 @@ pub fn scan(form: Allowed, b: &[u8], used: usize, nodes: &mut [u64]) -> Scanned
     let mut deeps = [0usize; 64];
     let mut n = 0;
     let mut at = 0;
+    // a while loop, since it steps by a node's length
     while at < b.len() {
         if n == 64 {
-            return Scanned::Denied(Refusal::TooLarge(at));
+            return Err(Refusal::TooLarge(at));
         }
-        let step = scan_node(form, b, at, used, &starts, &deeps, n);
-        match step {
-            Step::Refused(r) => {
-                return Scanned::Denied(r);
-            }
-            Step::Took {
-                word,
-                start,
-                deep,
-                next,
-            } => {
-                nodes[n] = word;
-                starts[n] = start;
-                deeps[n] = deep;
-                n += 1;
-                at = next;
-            }
-        }
+        let step = scan_node(form, b, at, used, &starts, &deeps, n)?;
+        nodes[n] = step.word;
+        starts[n] = step.start;
+        deeps[n] = step.deep;
+        n += 1;
+        at = step.next;
     }
     if n == 0 {
-        return Scanned::Denied(Refusal::NotACondition(at));
+        return Err(Refusal::NotACondition(at));
     }
     if starts[n - 1] == 0 {
-        return Scanned::Table(n);
+        return Ok(n);
     }
-    Scanned::Denied(Refusal::NotACondition(at))
+    Err(Refusal::NotACondition(at))
 }

@@ -18,11 +18,10 @@ use Rattle.tables.specs.Table.{column_count}
 use Rattle.naming.specs.OneSide.{Head, joined, side_of}
 use Rattle.heads.specs.Heads.{head_of, head_stop, head, if_room, HeadIs}
 use Rattle.naming.specs.Side.{ahead, handed_on, SideAsks, SideIs}
-use Rattle.naming.specs.declared.Joined.{Joined}
-use Rattle.naming.specs.declared.Joined.TheVariants.{Words, Refused}
 use Rattle.naming.proofs.Joining.{ahead_none}
 use Rattle.heads.proofs.Rising.{columns_rise}
 use Rattle.heads.proofs.Stopping.{Passed, passed}
+use Rattle.std.specs.Prelude.{Result, Ok, Err}
 
 -- both sides are joined: the words in the table of their own, and the text up to the new mark
 pub record Done (whole : Head) (stored out after words : List ℕ) (count top : ℕ) : Type 0 where
@@ -42,7 +41,7 @@ module _ (nullable : Bool) (left_name left right_name right text out : List ℕ)
   whole = head nullable left_name left right_name right stored (length text) used (length out)
 
   -- refused before a name is joined
-  pub denied : (r : Refusal) → head_stop left_name left right_name right (length text) used ≡ stop_of r → HeadIs whole stored text out out (Refused r)
+  pub denied : (r : Refusal) → head_stop left_name left right_name right (length text) used ≡ stop_of r → HeadIs whole stored text out out (Err r)
   unfolding head
   denied r e = rw e (record { says = refl; text = take_own used text; output = refl })
 
@@ -57,7 +56,7 @@ module _ (nullable : Bool) (left_name left right_name right text out : List ℕ)
     goes_on h e = rw (ok, e)
 
     -- a refusal leaves what lies below the mark
-    refused_later : (after : List ℕ) → take used after ≡ stored → (r : Refusal) → whole ≡ Head.refused (told r).number (told r).place → HeadIs whole stored after out out (Refused r)
+    refused_later : (after : List ℕ) → take used after ≡ stored → (r : Refusal) → whole ≡ Head.refused (told r).number (told r).place → HeadIs whole stored after out out (Err r)
     refused_later after k r e = rw e (record { says = refl; text = ap (λ m. take m after) (length-take-le used text (omega (arith, known.room))) ∙ k; output = refl })
 
     -- at most 32 columns of at most 255 bytes have room, on the left
@@ -73,16 +72,16 @@ module _ (nullable : Bool) (left_name left right_name right text out : List ℕ)
     abbrev then : List ℕ → Head
     then s = side_of right_name nullable (column_count left) right (λ s'. joined [] s') s
 
-    module _ (space text₁ words₁ : List ℕ) (first : Joined) (l : SideIs left_name left false 0 used text text₁ space words₁ first) where
+    module _ (space text₁ words₁ : List ℕ) (first : Result (ℕ × ℕ) Refusal) (l : SideIs left_name left false 0 used text text₁ space words₁ first) where
       -- both sides, the left one joined
-      after_left : (a : Joined) → first ≡ a → head_of nullable left_name left right_name right stored ≡ handed_on a words₁ text₁ then
+      after_left : (a : Result (ℕ × ℕ) Refusal) → first ≡ a → head_of nullable left_name left right_name right stored ≡ handed_on a words₁ text₁ then
       after_left a e = sym (ahead_none (head_of nullable left_name left right_name right stored)) ∙ l.says then ∙ ap (λ x. handed_on x words₁ text₁ then) e
 
       -- a left name is too long
-      pub left_refused : (r : Refusal) → first ≡ Refused r → HeadIs whole stored text₁ out out first
-      left_refused r e = subst (HeadIs whole stored text₁ out out) (sym e) (refused_later text₁ l.kept r (goes_on _ (after_left (Refused r) e)))
+      pub left_refused : (r : Refusal) → first ≡ Err r → HeadIs whole stored text₁ out out first
+      left_refused r e = subst (HeadIs whole stored text₁ out out) (sym e) (refused_later text₁ l.kept r (goes_on _ (after_left (Err r) e)))
 
-      module _ (n middle : ℕ) (e : first ≡ Words n middle) (long : length text₁ ≡ length text) (wide : length words₁ ≡ 64) where
+      module _ (n middle : ℕ) (e : first ≡ Ok (n, middle)) (long : length text₁ ≡ length text) (wide : length words₁ ≡ 64) where
         -- there is room on the right too
         pub right_asks : SideAsks right text₁ words₁ (column_count left) middle
         right_asks = let m = l.ends n middle e in
@@ -93,12 +92,12 @@ module _ (nullable : Bool) (left_name left right_name right text out : List ℕ)
               space = omega (arith, wide, known.few);
             }
 
-        module _ (text₂ words₂ : List ℕ) (second : Joined) (r : SideIs right_name right nullable (column_count left) middle text₁ text₂ words₁ words₂ second) where
+        module _ (text₂ words₂ : List ℕ) (second : Result (ℕ × ℕ) Refusal) (r : SideIs right_name right nullable (column_count left) middle text₁ text₂ words₁ words₂ second) where
           -- both sides, the right one joined too
-          after_right : (a : Joined) → second ≡ a → head_of nullable left_name left right_name right stored ≡ handed_on a words₂ text₂ (λ s. joined [] s)
+          after_right : (a : Result (ℕ × ℕ) Refusal) → second ≡ a → head_of nullable left_name left right_name right stored ≡ handed_on a words₂ text₂ (λ s. joined [] s)
           after_right a f =
               let c : n ≡ 2 * column_count left = omega (arith, (l.ends n middle e).0) in
-              after_left (Words n middle) e ∙ ap (λ k. ahead (take k words₁) (then (take middle text₁))) c
+              after_left (Ok (n, middle)) e ∙ ap (λ k. ahead (take k words₁) (then (take middle text₁))) c
               ∙ r.says (λ s. joined [] s) ∙ ap (λ x. handed_on x words₂ text₂ (λ s. joined [] s)) f
 
           -- what lies below the mark is kept through both
@@ -107,17 +106,17 @@ module _ (nullable : Bool) (left_name left right_name right text out : List ℕ)
               sym (take-take used middle text₂ m.1) ∙ ap (take used) r.kept ∙ take-take used middle text₁ m.1 ∙ l.kept
 
           -- a right name is too long
-          pub right_refused : (x : Refusal) → second ≡ Refused x → HeadIs whole stored text₂ out out second
-          right_refused x f = subst (HeadIs whole stored text₂ out out) (sym f) (refused_later text₂ still x (goes_on _ (after_right (Refused x) f)))
+          pub right_refused : (x : Refusal) → second ≡ Err x → HeadIs whole stored text₂ out out second
+          right_refused x f = subst (HeadIs whole stored text₂ out out) (sym f) (refused_later text₂ still x (goes_on _ (after_right (Err x) f)))
 
           -- both are joined
-          pub both_joined : (count top : ℕ) → second ≡ Words count top → length text₂ ≡ length text₁ → length words₂ ≡ length words₁ → Done whole stored out text₂ words₂ count top
+          pub both_joined : (count top : ℕ) → second ≡ Ok (count, top) → length text₂ ≡ length text₁ → length words₂ ≡ length words₁ → Done whole stored out text₂ words₂ count top
           both_joined count top f long₂ wide₂ =
               let m = l.ends n middle e in
               let k = r.ends count top f in
               let small : count ≤ length words₂ = omega (arith, k.0, known.few, wide, wide₂) in
               record {
-                comes = goes_on _ (after_right (Words count top) f ∙ ap (λ w. joined w (take top text₂)) (append-nil (take count words₂)));
+                comes = goes_on _ (after_right (Ok (count, top)) f ∙ ap (λ w. joined w (take top text₂)) (append-nil (take count words₂)));
                 kept = ap (λ x. take x text₂) (length-take-le used text (omega (arith, known.room))) ∙ still;
                 small = small;
                 counted = length-take-le count words₂ small;
@@ -128,7 +127,7 @@ module _ (nullable : Bool) (left_name left right_name right text out : List ℕ)
 
 module _ {whole : Head} {stored out after words : List ℕ} {count top : ℕ} (d : Done whole stored out after words count top) where
   -- 9, the mark unmoved
-  pub output_short : length out < count → HeadIs whole stored after out out (Refused (OutputShort count))
+  pub output_short : length out < count → HeadIs whole stored after out out (Err (OutputShort count))
   output_short h =
       let e : whole ≡ Head.refused 9 count = d.comes ∙ (rw (d.counted, lt-ltb (length out) count h)) in
       rw e (record { says = refl; text = d.kept; output = refl })
@@ -138,7 +137,7 @@ module _ {whole : Head} {stored out after words : List ℕ} {count top : ℕ} (d
   copy_room h = omega (arith, d.counted)
 
   -- and stand there
-  pub written : count ≤ length out → (q : ℕ) (out' : List ℕ) → Wrote out 0 (take count words) q out' → HeadIs whole stored after out out' (Words count top)
+  pub written : count ≤ length out → (q : ℕ) (out' : List ℕ) → Wrote out 0 (take count words) q out' → HeadIs whole stored after out out' (Ok (count, top))
   written h q out' w =
       let e : whole ≡ joined (take count words) (take top after) = d.comes ∙ (rw (d.counted, le-ltb (length out) count h)) in
       rw e (record { says = ap₂ wrote (sym d.counted) (sym d.marked); text = ap (λ m. take m after) d.marked; output = w.list })

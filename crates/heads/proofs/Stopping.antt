@@ -1,12 +1,12 @@
--- Which check stops the call, and what is known where none does. Assumes nothing.
+-- The words' own check is the last to stop the call; what is known where none does. Assumes nothing.
 use mathlib.Core.Path.{◌≡◌}
-use mathlib.Core.Bool.{true, false}
+use mathlib.Core.Bool.{true}
 use mathlib.Core.List.{List, [], ◌∷◌}
-use Prim.Native.Nat.{ℕ, ◌+◌, ◌≤◌, ◌<◌}
+use Prim.Native.Nat.{ℕ, ◌+◌, ◌≤◌}
 use lib.ListN.{length}
 use lib.Dec.{ltb, leb}
-use borrow.Author.Tests.{lt-ltb, le-ltb, le-leb, lt-leb, leb-true}
-use Rattle.refusals.specs.Stop.{Stop, never, stop, stop_if}
+use borrow.Author.Tests.{le-ltb, le-leb, leb-true}
+use Rattle.refusals.specs.Stop.{Stop, never, stop_if}
 use Rattle.refusals.proofs.First.{never_both}
 use Rattle.slices.specs.Bytes.{both}
 use Rattle.slices.proofs.Both.{both_true}
@@ -33,38 +33,15 @@ module _ (left_name left right_name right : List ℕ) (size used : ℕ) where
   whole = head_stop left_name left right_name right size used
 
   module _ (room : room_stop 32768 size used ≡ never) where
-    -- the left words are no table
-    pub no_left : is_table left ≡ false → stop 8 0 ≡ whole
-    no_left e = rw (room, e)
+    module _ (l : is_table left ≡ true) (r : is_table right ≡ true) (few : column_count left + column_count right ≤ 32) where
+      -- the counts are right
+      sides : are_sides left right ≡ true
+      sides = rw (l, r, le-leb (column_count left + column_count right) 32 few)
 
-    module _ (l : is_table left ≡ true) where
-      -- the right ones
-      pub no_right : is_table right ≡ false → stop 8 0 ≡ whole
-      no_right e = rw (room, l, e)
-
-      module _ (r : is_table right ≡ true) where
-        -- more than 32 columns together
-        pub too_many : 32 < column_count left + column_count right → stop 8 0 ≡ whole
-        too_many h = rw (room, l, r, lt-leb (column_count left + column_count right) 32 h)
-
-        module _ (few : column_count left + column_count right ≤ 32) where
-          -- the counts are right
-          sides : are_sides left right ≡ true
-          sides = rw (l, r, le-leb (column_count left + column_count right) 32 few)
-
-          -- the left table name has over 255 bytes
-          pub left_long : 255 < length left_name → stop 3 0 ≡ whole
-          left_long h = rw (room, sides, lt-ltb 255 (length left_name) h)
-
-          module _ (n : length left_name ≤ 255) where
-            -- the right one
-            pub right_long : 255 < length right_name → stop 3 0 ≡ whole
-            right_long h = rw (room, sides, le-ltb 255 (length left_name) n, lt-ltb 255 (length right_name) h)
-
-            -- the words' own check is left
-            pub the_words : length right_name ≤ 255 → words_stop used (left ∷ right ∷ []) ([] ∷ [] ∷ []) ≡ whole
-            unfolding cell_words_stop cells_stop
-            the_words m = rw (room, sides, le-ltb 255 (length left_name) n, le-ltb 255 (length right_name) m)
+      -- the words' own check is left
+      pub the_words : length left_name ≤ 255 → length right_name ≤ 255 → words_stop used (left ∷ right ∷ []) ([] ∷ [] ∷ []) ≡ whole
+      unfolding cell_words_stop cells_stop
+      the_words n m = rw (room, sides, le-ltb 255 (length left_name) n, le-ltb 255 (length right_name) m)
 
   -- nothing stops the call
   pub passed : whole ≡ never → Passed left right size used

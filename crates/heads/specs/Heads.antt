@@ -7,9 +7,9 @@ use Rattle.slices.specs.Splice.{splice}
 use Rattle.writing.specs.Marked.{Report, wrote}
 use Rattle.checks.specs.Check.{room_stop}
 use Rattle.tables.specs.Table.{column_count, are_sides, count_stop, column_words_stop}
-use Rattle.naming.specs.declared.Joined.{Joined}
-use Rattle.naming.specs.declared.Joined.TheVariants.{Words, Refused}
 use Rattle.naming.specs.OneSide.{Head, joined, side_of}
+use Rattle.std.specs.Prelude.{Result, Ok, Err}
+use Rattle.refusals.specs.declared.Refusal.{Refusal}
 
 -- left columns, then right ones
 abbrev pub head_of : Bool → List ℕ → List ℕ → List ℕ → List ℕ → List ℕ → Head
@@ -38,9 +38,9 @@ head nullable left_name left right_name right stored size used output =
     unless_stopped Head.refused (head_stop left_name left right_name right size used) (if_room output (head_of nullable left_name left right_name right stored))
 
 -- what an answer tells: words written and the new mark, or a refusal's number and place
-abbrev pub report_of : Joined → Report
-report_of (Words count mark) = wrote count mark
-report_of (Refused r) = Report.refused (told r).number (told r).place
+abbrev pub report_of : Result (ℕ × ℕ) Refusal → Report
+report_of (Ok (count, mark)) = wrote count mark
+report_of (Err r) = Report.refused (told r).number (told r).place
 
 -- what is to be told of joined columns: how many words, and the mark after the appended names
 abbrev pub report : Head → Report
@@ -58,7 +58,7 @@ output_after (joined words stored) before = splice before 0 words
 output_after (Head.refused number place) before = before
 
 -- an answer with the text and the output after it, where the call comes to this
-pub record HeadIs (h : Head) (stored after before-out after-out : List ℕ) (answer : Joined) : Type 0 where
+pub record HeadIs (h : Head) (stored after before-out after-out : List ℕ) (answer : Result (ℕ × ℕ) Refusal) : Type 0 where
   pub says : report_of answer ≡ report h
   pub text : take (length (stored_after h stored)) after ≡ stored_after h stored
   pub output : after-out ≡ output_after h before-out

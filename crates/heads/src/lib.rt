@@ -5,8 +5,7 @@ ghost use Rattle.std.specs.Prelude.{◌≡◌, true, false, length, take};
 ghost use Rattle.refusals.specs.Stop.{checked_of};
 ghost use Rattle.heads.specs.Heads.{head_stop, head, HeadIs};
 
-use naming::Joined;
-use refusals::{Checked, Refusal};
+use refusals::Refusal;
 
 // All that is looked at before a name is joined.
 fn check_sides(
@@ -16,32 +15,29 @@ fn check_sides(
     right: &[u64],
     size: usize,
     used: usize,
-) -> Checked
+) -> Result<(), Refusal>
     ensures { checked_of result ≡ head_stop left_name.now left.now right_name.now right.now size used }
 {
-    let room = checks::check_room(size, used, 32768);
-    let Checked::Sound = room else {
-        return room;
-    };
+    checks::check_room(size, used, 32768)?;
     if !tables::is_table(left) {
-        return Checked::Refused(Refusal::Malformed(0));
+        return Err(Refusal::Malformed(0));
     }
     if !tables::is_table(right) {
-        return Checked::Refused(Refusal::Malformed(0));
+        return Err(Refusal::Malformed(0));
     }
     if 32 < left.len() / 2 + right.len() / 2 {
-        return Checked::Refused(Refusal::Malformed(0));
+        return Err(Refusal::Malformed(0));
     }
     if 255 < left_name.len() {
-        return Checked::Refused(Refusal::TextOutside(0));
+        return Err(Refusal::TextOutside(0));
     }
     if 255 < right_name.len() {
-        return Checked::Refused(Refusal::TextOutside(0));
+        return Err(Refusal::TextOutside(0));
     }
     tables::check_words(left, right, &left[..0], &right[..0], used)
 }
 
-// Both calls: the words are put together in a table of their own, since a refused call leaves the output alone.
+// Both calls, which answer how many words were written, and the new mark: the words are put together in a table of their own, since a refused call leaves the output alone.
 fn join_columns(
     nullable: bool,
     left_name: &[u8],
@@ -51,29 +47,20 @@ fn join_columns(
     text: &mut [u8],
     used: usize,
     out: &mut [u64],
-) -> Joined
+) -> Result<(usize, usize), Refusal>
     ensures { HeadIs (head nullable left_name.now left.now right_name.now right.now (take used text.old)
         (length text.old) used (length out.old)) (take used text.old) text.new out.old out.new result }
 {
-    let checked = check_sides(left_name, left, right_name, right, text.len(), used);
-    if let Checked::Refused(r) = checked {
-        return Joined::Refused(r);
-    }
+    check_sides(left_name, left, right_name, right, text.len(), used)?;
     let mut words = [0u64; 64];
-    let first = naming::join_side(left_name, left, false, 0, text, used, &mut words);
-    let Joined::Words(_, middle) = first else {
-        return first;
-    };
+    let (_, middle) = naming::join_side(left_name, left, false, 0, text, used, &mut words)?;
     let n = left.len() / 2;
-    let second = naming::join_side(right_name, right, nullable, n, text, middle, &mut words);
-    let Joined::Words(count, top) = second else {
-        return second;
-    };
+    let (count, top) = naming::join_side(right_name, right, nullable, n, text, middle, &mut words)?;
     if out.len() < count {
-        return Joined::Refused(Refusal::OutputShort(count));
+        return Err(Refusal::OutputShort(count));
     }
-    slices::copy_words(&words[..count], out, 0);
-    Joined::Words(count, top)
+    slices::copy(&words[..count], out, 0);
+    Ok((count, top))
 }
 
 // `inner_join_columns`
@@ -85,7 +72,7 @@ pub fn inner_join_columns(
     text: &mut [u8],
     used: usize,
     out: &mut [u64],
-) -> Joined
+) -> Result<(usize, usize), Refusal>
     ensures { HeadIs (head false left_name.now left.now right_name.now right.now (take used text.old)
         (length text.old) used (length out.old)) (take used text.old) text.new out.old out.new result }
 {
@@ -101,7 +88,7 @@ pub fn left_join_columns(
     text: &mut [u8],
     used: usize,
     out: &mut [u64],
-) -> Joined
+) -> Result<(usize, usize), Refusal>
     ensures { HeadIs (head true left_name.now left.now right_name.now right.now (take used text.old)
         (length text.old) used (length out.old)) (take used text.old) text.new out.old out.new result }
 {

@@ -3,17 +3,14 @@ use mathlib.Core.Path.{◌≡◌, refl, sym, ap, ap₂, ◌∙◌}
 use mathlib.Core.List.{List, ◌++◌}
 use Prim.Native.Nat.{ℕ, ◌+◌, ◌*◌, ◌≤◌, ◌<◌}
 use native.Mathlib.Omega.{arith}
-use native.Mathlib.Nat.{add-mul, mul-le-mul}
+use native.Mathlib.Nat.{add-mul}
 use lib.ListN.{length, take, length-append}
 use lib.Seq.{length-take-le}
 use borrow.Author.Tests.{lt-ltb, le-ltb}
-use Rattle.refusals.specs.Stop.{never, stop_of}
+use Rattle.refusals.specs.Stop.{never}
 use Rattle.refusals.specs.declared.Refusal.{Refusal}
 use Rattle.refusals.specs.declared.Refusal.TheVariants.{OutputShort}
-use Rattle.refusals.proofs.First.{first_stops}
 use Rattle.slices.specs.Splice.{splice}
-use Rattle.writing.specs.declared.Written.{Written}
-use Rattle.writing.specs.declared.Written.TheVariants.{Count, Refused}
 use Rattle.writing.proofs.Answers.{refused_is}
 use Rattle.tables.specs.Table.{column_count}
 use Rattle.sorting.specs.Sorted.{in_key_order, double_stop, new_stop}
@@ -26,6 +23,7 @@ use Rattle.merging.specs.Merge.{MergeAsks}
 use Rattle.inserting.specs.Insert.{rows_in, sorted_words, inserted, lent_stop, keys_stop, InsertIs}
 use Rattle.inserting.specs.Sorting.{SortAsks}
 use Rattle.inserting.proofs.Passing.{Lent, lent, keys_never}
+use Rattle.std.specs.Prelude.{Result, Ok, Err}
 
 -- ---- the rows in key order
 
@@ -66,7 +64,7 @@ module _ (columns stored old : List ℕ) (m : ℕ) (new : List ℕ) (n : ℕ) (o
 
 -- ---- the call
 
-module _ (columns old new text : List ℕ) (used : ℕ) (out : List ℕ) where
+module _ (columns old new text : List ℕ) (used : ℕ) (L : never ≡ lent_stop columns old new (length text) used) where
   abbrev stored : List ℕ
   stored = take used text
 
@@ -76,63 +74,46 @@ module _ (columns old new text : List ℕ) (used : ℕ) (out : List ℕ) where
   abbrev n : ℕ
   n = rows_in columns new
 
-  -- what it is to answer and to write
-  abbrev Answer : List ℕ → Written → Type 0
-  Answer after a = InsertIs columns stored old new (length text) used out after a
+  passed : Lent columns old new (length text) used
+  passed = lent columns old new (length text) used (sym L)
 
-  -- 10, counts or words stop it
-  pub insert_lent : (r : Refusal) → lent_stop columns old new (length text) used ≡ stop_of r → Answer out (Refused r)
-  insert_lent r e = refused_is out _ (m + n) (inserted columns stored old new) r (first_stops _ _ r e)
+  pub some_columns : 1 ≤ column_count columns
+  some_columns = passed.table.some
 
-  module _ (L : lent_stop columns old new (length text) used ≡ never) where
-    passed : Lent columns old new (length text) used
-    passed = lent columns old new (length text) used L
+  -- the stored text lies in the text, and the rows are sound in it
+  pub stored_length : used ≡ length (take used text)
+  stored_length = sym (length-take-le used text passed.inside)
 
-    pub some_columns : 1 ≤ column_count columns
-    some_columns = passed.table.some
+  pub rows_sound : RowsSound columns (length (take used text)) (rows_in columns old) old × RowsSound columns (length (take used text)) (rows_in columns new) new
+  rows_sound = rw (length-take-le used text passed.inside) (passed.old_rows, passed.new_rows)
 
-    -- the stored text lies in the text, and the rows are sound in it
-    pub stored_length : used ≡ length (take used text)
-    stored_length = sym (length-take-le used text passed.inside)
+  -- the words that all rows take
+  needed : length (inserted columns stored old new) ≡ (m + n) * column_count columns
+  needed =
+      let all : length (old ++ new) ≡ (m + n) * column_count columns =
+      length-append old new ∙ ap₂ (λ a b. a + b) passed.old_rows.whole passed.new_rows.whole ∙ sym (add-mul m n (column_count columns)) in
+      rows_length (old ++ new) (column_count columns) (m + n) all (in_key_order (compare_rows columns stored (old ++ new)) (m + n)) (order_within (compare_rows columns stored (old ++ new)) (m + n))
+      ∙ ap (λ k. k * column_count columns) (order_length (compare_rows columns stored (old ++ new)) (m + n))
 
-    pub old_sound : RowsSound columns (length (take used text)) (rows_in columns old) old
-    old_sound = rw (length-take-le used text passed.inside) passed.old_rows
+  module _ (K : never ≡ keys_stop columns (take used text) old (rows_in columns old) new (rows_in columns new)) (out : List ℕ) where
+    -- what it is to answer and to write
+    abbrev Answer : List ℕ → Result ℕ Refusal → Type 0
+    Answer after a = InsertIs columns stored old new (length text) used out after a
 
-    pub new_sound : RowsSound columns (length (take used text)) (rows_in columns new) new
-    new_sound = rw (length-take-le used text passed.inside) passed.new_rows
+    -- 9 stops it
+    pub insert_short : length out < (rows_in columns old + rows_in columns new) * column_count columns
+        → Answer out (Err (OutputShort ((rows_in columns old + rows_in columns new) * column_count columns)))
+    insert_short h =
+        refused_is out _ (m + n) (inserted columns stored old new) (OutputShort ((m + n) * column_count columns))
+        (rw (← L, ← K, needed, lt-ltb (length out) ((m + n) * column_count columns) h))
 
-    -- 13, 14, 11 or 12 stops it
-    pub insert_keys : (r : Refusal) → keys_stop columns (take used text) old (rows_in columns old) new (rows_in columns new) ≡ stop_of r → Answer out (Refused r)
-    insert_keys r e = refused_is out _ (m + n) (inserted columns stored old new) r (rw L (first_stops _ _ r e))
+    module _ (h : (rows_in columns old + rows_in columns new) * column_count columns ≤ length out) where
+      -- all rows are written
+      pub sort_asks : SortAsks columns (take used text) old (rows_in columns old) new (rows_in columns new) out
+      sort_asks = record { old_rows = rows_sound.0; new_rows = rows_sound.1; keys = sym K; room = h }
 
-    -- the words that all rows take
-    pub few_rows : rows_in columns old + rows_in columns new ≤ 8192
-    few_rows = omega (arith, passed.old_rows.few, passed.new_rows.few)
-
-    pub few_words : (rows_in columns old + rows_in columns new) * column_count columns ≤ 262144
-    few_words = mul-le-mul few_rows passed.table.few
-
-    needed : length (inserted columns stored old new) ≡ (m + n) * column_count columns
-    needed =
-        let all : length (old ++ new) ≡ (m + n) * column_count columns =
-        length-append old new ∙ ap₂ (λ a b. a + b) passed.old_rows.whole passed.new_rows.whole ∙ sym (add-mul m n (column_count columns)) in
-        rows_length (old ++ new) (column_count columns) (m + n) all (in_key_order (compare_rows columns stored (old ++ new)) (m + n)) (order_within (compare_rows columns stored (old ++ new)) (m + n))
-        ∙ ap (λ k. k * column_count columns) (order_length (compare_rows columns stored (old ++ new)) (m + n))
-
-    module _ (K : keys_stop columns (take used text) old (rows_in columns old) new (rows_in columns new) ≡ never) where
-      -- 9 stops it
-      pub insert_short : length out < (rows_in columns old + rows_in columns new) * column_count columns
-          → Answer out (Refused (OutputShort ((rows_in columns old + rows_in columns new) * column_count columns)))
-      insert_short h =
-          refused_is out _ (m + n) (inserted columns stored old new) (OutputShort ((m + n) * column_count columns)) (rw (L, K, needed, lt-ltb (length out) ((m + n) * column_count columns) h))
-
-      module _ (h : (rows_in columns old + rows_in columns new) * column_count columns ≤ length out) where
-        -- all rows are written
-        pub sort_asks : SortAsks columns (take used text) old (rows_in columns old) new (rows_in columns new) out
-        sort_asks = record { old_rows = old_sound; new_rows = new_sound; keys = K; room = h }
-
-        pub insert_written : (after : List ℕ) → after ≡ splice out 0 (sorted_words columns (take used text) old (rows_in columns old) new (rows_in columns new))
-            → Answer after (Count (rows_in columns old + rows_in columns new))
-        insert_written after e =
-            let room : length (inserted columns stored old new) ≤ length out = rw needed h in
-            rw (L, K, le-ltb (length out) (length (inserted columns stored old new)) room) (record { says = refl; output = e; room = λ z. room })
+      pub insert_written : (after : List ℕ) → after ≡ splice out 0 (sorted_words columns (take used text) old (rows_in columns old) new (rows_in columns new))
+          → Answer after (Ok (rows_in columns old + rows_in columns new))
+      insert_written after e =
+          let room : length (inserted columns stored old new) ≤ length out = rw needed h in
+          rw (← L, ← K, le-ltb (length out) (length (inserted columns stored old new)) room) (record { says = refl; output = e; room = λ z. room })

@@ -7,7 +7,6 @@ use Rattle.refusals.specs.Stop.{never}
 use Rattle.refusals.proofs.First.{never_both}
 use Rattle.slices.specs.Splice.{splice}
 use Rattle.writing.specs.Writing.{output_after}
-use Rattle.writing.specs.declared.Written.{Written}
 use Rattle.tables.specs.Table.{column_count}
 use Rattle.marking.specs.RowList.{words_of}
 use Rattle.marking.specs.Marks.{part}
@@ -19,6 +18,8 @@ use Rattle.sorting.proofs.Ordered.{order_sorted, sorted_unique}
 use Rattle.sorting.proofs.Joined.{all_lawful}
 use Rattle.inserting.specs.Insert.{rows_in, inserted, lent_stop, keys_stop, insert_stop, InsertIs}
 use Rattle.inserting.proofs.Passing.{lent, keys_never}
+use Rattle.std.specs.Prelude.{Result}
+use Rattle.refusals.specs.declared.Refusal.{Refusal}
 
 module _ (columns stored old new : List ℕ) (size used output : ℕ) (e : insert_stop columns stored old new size used output ≡ never) where
   -- all rows, compared by key
@@ -54,7 +55,7 @@ module _ (columns stored old new : List ℕ) (size used output : ℕ) (e : inser
   accepted_unique numbers s = sorted_unique lawful numbers _ s accepted_sorted
 
 -- so an accepted call leaves the words of any such list at the start of its output
-pub accepted_words : (columns stored old new : List ℕ) (size used : ℕ) (before after : List ℕ) (a : Written)
+pub accepted_words : (columns stored old new : List ℕ) (size used : ℕ) (before after : List ℕ) (a : Result ℕ Refusal)
     → InsertIs columns stored old new size used before after a → insert_stop columns stored old new size used (length before) ≡ never
     → (numbers : List ℕ) → Sorted (compare_rows columns stored (old ++ new)) (rows_in columns old + rows_in columns new) numbers
     → after ≡ splice before 0 (words_of (part (old ++ new) (column_count columns)) numbers)

@@ -1,15 +1,13 @@
--- What insert looks at first: which check stops it, and what is known where none does. Assumes nothing.
+-- What insert looks at before it writes: what is known where no check stops it, and what stops it where nothing before does. Assumes nothing.
 use mathlib.Core.Path.{◌≡◌, sym, ◌∙◌}
-use mathlib.Core.Bool.{true, false}
 use mathlib.Core.List.{List, [], ◌∷◌, ◌++◌}
-use Prim.Native.Nat.{ℕ, ◌*◌, ◌≤◌}
+use Prim.Native.Nat.{ℕ, ◌≤◌}
 use native.Mathlib.Omega.{arith}
-use lib.ListN.{length}
-use Rattle.refusals.specs.Stop.{Stop, never, stop, checked_of, or_else}
+use mathlib.Core.Bool.{true}
+use Rattle.std.specs.Prelude.{Result, Err, ⊤}
 use Rattle.refusals.specs.declared.Refusal.{Refusal}
-use Rattle.refusals.specs.declared.Checked.{Checked}
-use Rattle.refusals.specs.declared.Checked.TheVariants.{Sound, Refused}
-use Rattle.refusals.proofs.First.{refused_first, sound_first, never_both, nothing_behind}
+use Rattle.refusals.specs.Stop.{never, or_else, checked_of}
+use Rattle.refusals.proofs.First.{never_both, nothing_behind, refused_first}
 use Rattle.slices.specs.Bytes.{both}
 use Rattle.slices.proofs.Both.{both_true}
 use Rattle.checks.specs.Check.{room_stop}
@@ -18,33 +16,12 @@ use Rattle.tables.specs.Table.{column_count, is_table, are_rows, count_stop, wor
 use Rattle.tables.proofs.Words.{Counted, table_counted, words_sound, count_right, rows_whole}
 use Rattle.sorting.specs.Sorted.{double_stop, new_stop}
 use Rattle.sorting.specs.Rows.{compare_rows, RowsSound}
-use Rattle.sorting.proofs.Joined.{old_double}
 use Rattle.doubles.specs.Doubles.{values_stop}
 use Rattle.inserting.specs.Insert.{rows_in, lent_stop, keys_stop}
 
 -- ---- 10, counts, words
 
-module _ (columns old new : List ℕ) (size used : ℕ) where
-  -- each check in turn
-  pub room_stops : (a : Checked) (r : Refusal) → a ≡ Refused r → checked_of a ≡ room_stop 0 size used → checked_of a ≡ lent_stop columns old new size used
-  room_stops a r e f = refused_first a (room_stop 0 size used) _ r e f
-
-  module _ (R : room_stop 0 size used ≡ never) where
-    pub table_stops : is_table columns ≡ false → stop 8 0 ≡ lent_stop columns old new size used
-    table_stops e = rw (R, e)
-
-    module _ (T : is_table columns ≡ true) where
-      pub old_stops : are_rows (column_count columns) old ≡ false → stop 8 0 ≡ lent_stop columns old new size used
-      old_stops e = rw (R, T, e)
-
-      module _ (O : are_rows (column_count columns) old ≡ true) where
-        pub new_stops : are_rows (column_count columns) new ≡ false → stop 8 0 ≡ lent_stop columns old new size used
-        new_stops e = rw (R, T, O, e)
-
-        pub words_stop_lem : are_rows (column_count columns) new ≡ true → words_stop used (columns ∷ [] ∷ []) (old ∷ new ∷ []) ≡ lent_stop columns old new size used
-        words_stop_lem e = rw (R, T, O, e) (sym (nothing_behind (words_stop used (columns ∷ [] ∷ []) (old ∷ new ∷ []))))
-
--- what is known where none stops it
+-- what is known where none of these stops it
 pub record Lent (columns old new : List ℕ) (size used : ℕ) : Type 0 where
   pub inside : used ≤ size
   pub table : Counted columns
@@ -72,32 +49,19 @@ lent columns old new size used e =
 -- ---- 13, 14, 11, 12
 
 module _ (columns stored old : List ℕ) (m : ℕ) (new : List ℕ) (n : ℕ) where
-  module _ (a : Checked) (f : checked_of a ≡ values_stop columns stored 0 new) where
-    -- a new value is not valid
-    pub values_stop_lem : (r : Refusal) → a ≡ Refused r → checked_of a ≡ keys_stop columns stored old m new n
-    values_stop_lem r e = refused_first a (values_stop columns stored 0 new) _ r e f
-
-    module _ (e : a ≡ Sound) (w : length old ≡ m * column_count columns) (v : length new ≡ n * column_count columns)
-        (b : Checked) (g : checked_of b ≡ double_stop (compare_rows columns stored old) 0 m) where
-      -- the old rows, told of all rows
-      twice : checked_of b ≡ double_stop (compare_rows columns stored (old ++ new)) 0 m
-      twice = g ∙ sym (old_double columns stored old new m n w v)
-
-      -- an old key stands there twice
-      pub old_key_stops : (r : Refusal) → b ≡ Refused r → checked_of b ≡ keys_stop columns stored old m new n
-      old_key_stops r q = refused_first b (double_stop (compare_rows columns stored (old ++ new)) 0 m) _ r q twice ∙ sym (sound_first a (values_stop columns stored 0 new) _ e f)
-
-      -- then the new keys
-      pub new_keys_stop : b ≡ Sound → (s : Stop) → s ≡ new_stop (compare_rows columns stored (old ++ new)) m 0 n → s ≡ keys_stop columns stored old m new n
-      new_keys_stop q s h =
-          h
-          ∙ sym (nothing_behind (new_stop (compare_rows columns stored (old ++ new)) m 0 n))
-          ∙ sym (sound_first b (double_stop (compare_rows columns stored (old ++ new)) 0 m) _ q twice)
-          ∙ sym (sound_first a (values_stop columns stored 0 new) _ e f)
-
-  -- none of them stops it
   pub keys_never : keys_stop columns stored old m new n ≡ never → (double_stop (compare_rows columns stored (old ++ new)) 0 m ≡ never) × (new_stop (compare_rows columns stored (old ++ new)) m 0 n ≡ never)
   keys_never e =
       let a = never_both (values_stop columns stored 0 new) (or_else (double_stop (compare_rows columns stored (old ++ new)) 0 m) (or_else (new_stop (compare_rows columns stored (old ++ new)) m 0 n) never)) e in
       let b = never_both (double_stop (compare_rows columns stored (old ++ new)) 0 m) (or_else (new_stop (compare_rows columns stored (old ++ new)) m 0 n) never) a.1 in
       (b.0, sym (nothing_behind (new_stop (compare_rows columns stored (old ++ new)) m 0 n)) ∙ b.1)
+
+-- ---- what stops insert where nothing before it does
+
+pub words_stop_lem : (columns old new : List ℕ) (size used : ℕ) → room_stop 0 size used ≡ never → is_table columns ≡ true → are_rows (column_count columns) old ≡ true
+    → are_rows (column_count columns) new ≡ true → words_stop used (columns ∷ [] ∷ []) (old ∷ new ∷ []) ≡ lent_stop columns old new size used
+words_stop_lem columns old new size used R T O e = rw (R, T, O, e) (sym (nothing_behind (words_stop used (columns ∷ [] ∷ []) (old ∷ new ∷ []))))
+
+-- a new value is not valid
+pub values_stop_lem : (columns stored old : List ℕ) (m : ℕ) (new : List ℕ) (n : ℕ) (a : Result ⊤ Refusal) → checked_of a ≡ values_stop columns stored 0 new
+    → (r : Refusal) → a ≡ Err r → checked_of a ≡ keys_stop columns stored old m new n
+values_stop_lem columns stored old m new n a f r e = refused_first a (values_stop columns stored 0 new) _ r e f

@@ -3,7 +3,6 @@ use Rattle.std.specs.Prelude.{ℕ, ◌+◌, ◌/◌, List, [], ◌∷◌, ◌++�
 use Rattle.refusals.specs.Stop.{Stop, first_of}
 use Rattle.slices.specs.Bytes.{both}
 use Rattle.writing.specs.Writing.{WrittenIs}
-use Rattle.writing.specs.declared.Written.{Written}
 use Rattle.checks.specs.Check.{room_stop, short_stop}
 use Rattle.tables.specs.Table.{column_count, is_table, are_rows, count_stop, words_stop}
 use Rattle.marking.specs.RowList.{words_of}
@@ -11,6 +10,8 @@ use Rattle.marking.specs.Marks.{part}
 use Rattle.sorting.specs.Sorted.{in_key_order, double_stop, new_stop}
 use Rattle.sorting.specs.Rows.{compare_rows}
 use Rattle.doubles.specs.Doubles.{values_stop}
+use Rattle.std.specs.Prelude.{Result}
+use Rattle.refusals.specs.declared.Refusal.{Refusal}
 
 -- how many rows a part of a table has
 abbrev pub rows_in : List ℕ → List ℕ → ℕ
@@ -52,7 +53,7 @@ insert_stop columns stored old new size used output =
     ∷ [])
 
 -- what `insert` answers and writes: all rows
-abbrev pub InsertIs : List ℕ → List ℕ → List ℕ → List ℕ → ℕ → ℕ → List ℕ → List ℕ → Written → Type 0
+abbrev pub InsertIs : List ℕ → List ℕ → List ℕ → List ℕ → ℕ → ℕ → List ℕ → List ℕ → Result ℕ Refusal → Type 0
 InsertIs columns stored old new size used before after answer =
     WrittenIs before after answer (insert_stop columns stored old new size used (length before)) (rows_in columns old + rows_in columns new)
     (inserted columns stored old new)

@@ -8,25 +8,27 @@ ghost use Rattle.sorting.specs.Rows.{RowsSound};
 ghost use Rattle.inserting.specs.Insert.{sorted_words, lent_stop, keys_stop, InsertIs};
 ghost use Rattle.inserting.specs.Sorting.{SortAsks};
 
-use refusals::{Checked, Refusal};
-use writing::Written;
+use refusals::Refusal;
 
 // What is looked at first: 10, counts, words.
-fn check_lent(columns: &[u64], old: &[u64], new: &[u64], size: usize, used: usize) -> Checked
+fn check_lent(
+    columns: &[u64],
+    old: &[u64],
+    new: &[u64],
+    size: usize,
+    used: usize,
+) -> Result<(), Refusal>
     ensures { checked_of result ≡ lent_stop columns.now old.now new.now size used }
 {
-    let room = checks::check_room(size, used, 0);
-    let Checked::Sound = room else {
-        return room;
-    };
+    checks::check_room(size, used, 0)?;
     if !tables::is_table(columns) {
-        return Checked::Refused(Refusal::Malformed(0));
+        return Err(Refusal::Malformed(0));
     }
     if !tables::are_rows(columns.len() / 2, old) {
-        return Checked::Refused(Refusal::Malformed(0));
+        return Err(Refusal::Malformed(0));
     }
     if !tables::are_rows(columns.len() / 2, new) {
-        return Checked::Refused(Refusal::Malformed(0));
+        return Err(Refusal::Malformed(0));
     }
     tables::check_words(columns, &columns[..0], old, new, used)
 }
@@ -39,18 +41,12 @@ fn check_keys(
     m: usize,
     new: &[u64],
     n: usize,
-) -> Checked
+) -> Result<(), Refusal>
     requires { RowsSound columns.now (length stored.now) m old.now × RowsSound columns.now (length stored.now) n new.now }
     ensures { checked_of result ≡ keys_stop columns.now stored.now old.now m new.now n }
 {
-    let values = doubles::check_values(columns, stored, new);
-    let Checked::Sound = values else {
-        return values;
-    };
-    let twice = doubles::check_old(columns, stored, old, m);
-    let Checked::Sound = twice else {
-        return twice;
-    };
+    doubles::check_values(columns, stored, new)?;
+    doubles::check_old(columns, stored, old, m)?;
     doubles::check_new(columns, stored, old, m, new, n)
 }
 
@@ -82,25 +78,19 @@ pub fn insert<'a>(
     text: &[u8],
     used: usize,
     out: &mut [u64],
-) -> Written
+) -> Result<usize, Refusal>
     ensures { InsertIs columns.now (take used text.now) old.now new.now (length text.now) used
         out.old out.new result }
 {
-    let lent = check_lent(columns, old, new, text.len(), used);
-    if let Checked::Refused(r) = lent {
-        return Written::Refused(r);
-    }
+    check_lent(columns, old, new, text.len(), used)?;
     let width = columns.len() / 2;
     let m = old.len() / width;
     let n = new.len() / width;
-    let keys = check_keys(columns, &text[..used], old, m, new, n);
-    if let Checked::Refused(r) = keys {
-        return Written::Refused(r);
-    }
+    check_keys(columns, &text[..used], old, m, new, n)?;
     let needed = (m + n) * width;
     if out.len() < needed {
-        return Written::Refused(Refusal::OutputShort(needed));
+        return Err(Refusal::OutputShort(needed));
     }
     write_sorted(columns, &text[..used], old, m, new, n, out);
-    Written::Count(m + n)
+    Ok(m + n)
 }

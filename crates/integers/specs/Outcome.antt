@@ -4,8 +4,9 @@ use Rattle.cells.specs.Cell.{word_of}
 use Rattle.cells.specs.declared.ValueRef.{ValueRef}
 use Rattle.cells.specs.declared.ValueRef.TheVariants.{Null, Int, Str, Binary}
 use Rattle.values.specs.Value.{Value, null, int, str, binary}
-use Rattle.integers.specs.declared.Answer.{Answer}
-use Rattle.integers.specs.declared.Answer.TheVariants.{Gave, Overflow, ShiftAmount, TooLong}
+use Rattle.std.specs.Prelude.{Result, Ok, Err}
+use Rattle.integers.specs.declared.Fault.{Fault}
+use Rattle.integers.specs.declared.Fault.TheVariants.{Overflow, ShiftAmount, TooLong}
 
 -- a value, or a refusal by its number; the place is the caller's to tell
 pub data Outcome : Type 0 where
@@ -17,12 +18,16 @@ pub data Reply : Type 0 where
   gave : ℕ → ℕ → Reply
   refused : ℕ → Reply
 
--- what an answer tells: document 01's numbers
-abbrev pub reply_of : Answer → Reply
-reply_of (Gave word top) = gave word top
-reply_of Overflow = refused 5
-reply_of ShiftAmount = refused 6
-reply_of TooLong = refused 7
+-- document 01's number of a fault
+abbrev pub number_of : Fault → ℕ
+number_of Overflow = 5
+number_of ShiftAmount = 6
+number_of TooLong = 7
+
+-- what an answer tells
+abbrev pub reply_of : Result (ℕ × ℕ) Fault → Reply
+reply_of (Ok (word, top)) = gave word top
+reply_of (Err fault) = refused (number_of fault)
 
 -- the cell of a value, a new text standing at the top
 abbrev pub cell_at : ℕ → Value → ValueRef

@@ -1,16 +1,14 @@
--- The rows of one mark written, or 9: how many words they take, and what is answered. Assumes nothing.
-use mathlib.Core.Path.{◌≡◌, refl, sym, ap, ◌∙◌}
+-- The rows of one mark written, or 9: how many words they take, their room, and what is answered where they have none. Assumes nothing.
+use mathlib.Core.Path.{◌≡◌, sym, ap, ◌∙◌}
 use mathlib.Core.List.{List, [], ◌∷◌}
 use Prim.Native.Nat.{ℕ, ◌*◌, ◌≤◌, ◌<◌}
 use native.Mathlib.Omega.{arith}
 use native.Mathlib.Nat.{mul-le-mul}
 use lib.ListN.{length, get_or, replicate, length-replicate, length-map}
-use borrow.Author.Tests.{lt-ltb, le-ltb}
+use borrow.Author.Tests.{lt-ltb}
 use Rattle.refusals.specs.declared.Refusal.TheVariants.{OutputShort}
-use Rattle.slices.specs.Splice.{Wrote}
 use Rattle.slices.proofs.Pieces.{piece_length}
 use Rattle.writing.specs.Writing.{WrittenIs}
-use Rattle.writing.specs.declared.Written.TheVariants.{Count, Refused}
 use Rattle.writing.proofs.Answers.{refused_is}
 use Rattle.marking.specs.RowList.{kept_from}
 use Rattle.marking.specs.Marks.{part}
@@ -19,6 +17,7 @@ use Rattle.marking.proofs.Marking.{row_inside}
 use Rattle.projecting.specs.Project.{projected, has_mark, marked_words}
 use Rattle.checks.specs.Check.{short_stop}
 use Rattle.keeping.specs.Kept.{KeptAsks}
+use Rattle.std.specs.Prelude.{Err}
 
 -- a projected row has at most 32 words
 few_words : (list row : List ℕ) → length row ≤ 32 → length list ≤ 32 → length (projected list row) ≤ 32
@@ -47,14 +46,9 @@ module _ {list rows marks : List ℕ} {width n mark count : ℕ} (A : KeptAsks l
   module _ (out : List ℕ) where
     -- the output is short
     pub kept_short : length out < count * w
-        → WrittenIs out out (Refused (OutputShort (count * w))) (short_stop (length out) (length (marked_words list rows width n marks mark))) count (marked_words list rows width n marks mark)
+        → WrittenIs out out (Err (OutputShort (count * w))) (short_stop (length out) (length (marked_words list rows width n marks mark))) count (marked_words list rows width n marks mark)
     kept_short h = refused_is out _ count _ (OutputShort (count * w)) (rw (kept_needed, lt-ltb (length out) (count * w) h))
 
     module _ (h : count * w ≤ length out) where
       pub kept_room : length (marked_words list rows width n marks mark) ≤ length out
       kept_room = rw kept_needed h
-
-      -- the rows are written
-      pub kept_written : (p : ℕ) (after : List ℕ) → Wrote out 0 (marked_words list rows width n marks mark) p after
-          → WrittenIs out after (Count count) (short_stop (length out) (length (marked_words list rows width n marks mark))) count (marked_words list rows width n marks mark)
-      kept_written p after w = rw (le-ltb (length out) (length (marked_words list rows width n marks mark)) kept_room) (record { says = refl; output = w.list; room = λ e. kept_room })

@@ -1,15 +1,12 @@
 -- What every call on one table looks at first: which check stops it, and what is known where none does. Assumes nothing.
-use mathlib.Core.Path.{◌≡◌, refl, sym, ap, ◌∙◌}
+use mathlib.Core.Path.{◌≡◌, sym}
 use mathlib.Core.Bool.{Bool, true, false}
 use mathlib.Core.List.{List, [], ◌∷◌}
 use Prim.Native.Nat.{ℕ, ◌*◌, ◌≤◌}
 use native.Mathlib.Omega.{arith}
 use lib.ListN.{length}
-use Rattle.refusals.specs.Stop.{never, stop, checked_of, or_else}
-use Rattle.refusals.specs.declared.Refusal.{Refusal}
-use Rattle.refusals.specs.declared.Checked.{Checked}
-use Rattle.refusals.specs.declared.Checked.TheVariants.{Refused}
-use Rattle.refusals.proofs.First.{told_refused, never_both, nothing_behind}
+use Rattle.refusals.specs.Stop.{never, stop}
+use Rattle.refusals.proofs.First.{never_both, nothing_behind}
 use Rattle.slices.specs.Bytes.{both}
 use Rattle.slices.proofs.Both.{both_true}
 use Rattle.checks.specs.Check.{room_stop, cells_stop}
@@ -23,35 +20,14 @@ use Rattle.keeping.specs.Table.{row_count, table_stop}
 
 -- ---- which check stops it
 
--- an empty condition needs no room
-pub no_room : (b : List ℕ) → length b ≡ 0 → 0 ≡ room_for b
-no_room [] e = refl
-no_room (x ∷ b) e = absurd (let z : ⊥ = omega arith in z)
-
--- any other condition needs 32,768 bytes of room
-pub some_room : (b : List ℕ) → (length b ≡ 0 → ⊥) → 32768 ≡ room_for b
-some_room [] n = absurd (n refl)
-some_room (x ∷ b) n = refl
-
 module _ (counts : Bool) (b columns rows : List ℕ) (size used : ℕ) where
   -- each check in turn
-  pub room_stops : (a : Checked) (r : Refusal) → a ≡ Refused r → checked_of a ≡ room_stop (room_for b) size used → checked_of a ≡ table_stop counts b columns rows size used
-  room_stops a r e f =
-      ap checked_of e ∙ ap (λ s. or_else s (or_else (count_stop (both (both (is_table columns) (are_rows (column_count columns) rows)) counts)) (or_else (words_stop used (columns ∷ [] ∷ []) (rows ∷ [] ∷ [])) never)))
-      (sym (told_refused a r _ e f))
-
   module _ (R : room_stop (room_for b) size used ≡ never) where
-    pub table_stops : is_table columns ≡ false → stop 8 0 ≡ table_stop counts b columns rows size used
-    table_stops e = rw (R, e)
-
     module _ (T : is_table columns ≡ true) where
       pub rows_stop_lem : are_rows (column_count columns) rows ≡ false → stop 8 0 ≡ table_stop counts b columns rows size used
       rows_stop_lem e = rw (R, T, e)
 
       module _ (W : are_rows (column_count columns) rows ≡ true) where
-        pub counts_stop : counts ≡ false → stop 8 0 ≡ table_stop counts b columns rows size used
-        counts_stop e = rw (R, T, W, e)
-
         pub words_stop_lem : counts ≡ true → words_stop used (columns ∷ [] ∷ []) (rows ∷ [] ∷ []) ≡ table_stop counts b columns rows size used
         words_stop_lem e = rw (R, T, W, e) (sym (nothing_behind (words_stop used (columns ∷ [] ∷ []) (rows ∷ [] ∷ []))))
 

@@ -10,8 +10,7 @@ ghost use Rattle.keeping.specs.Table.{table_stop};
 ghost use Rattle.checks.specs.Check.{short_stop};
 ghost use Rattle.keeping.specs.Kept.{KeptAsks};
 
-use refusals::{Checked, Refusal};
-use writing::Written;
+use refusals::Refusal;
 
 // The room above the mark that a condition needs.
 pub fn room_for(condition: &[u8]) -> usize
@@ -31,21 +30,18 @@ pub fn check_table(
     condition: &[u8],
     size: usize,
     used: usize,
-) -> Checked
+) -> Result<(), Refusal>
     ensures { checked_of result ≡ table_stop counts condition.now columns.now rows.now size used }
 {
-    let room = checks::check_room(size, used, room_for(condition));
-    let Checked::Sound = room else {
-        return room;
-    };
+    checks::check_room(size, used, room_for(condition))?;
     if !tables::is_table(columns) {
-        return Checked::Refused(Refusal::Malformed(0));
+        return Err(Refusal::Malformed(0));
     }
     if !tables::are_rows(columns.len() / 2, rows) {
-        return Checked::Refused(Refusal::Malformed(0));
+        return Err(Refusal::Malformed(0));
     }
     if !counts {
-        return Checked::Refused(Refusal::Malformed(0));
+        return Err(Refusal::Malformed(0));
     }
     tables::check_words(columns, &columns[..0], rows, &rows[..0], used)
 }
@@ -60,7 +56,7 @@ pub fn write_kept(
     mark: u64,
     count: usize,
     out: &mut [u64],
-) -> Written
+) -> Result<usize, Refusal>
     requires { KeptAsks list.now rows.now marks.now width n mark count }
     ensures { WrittenIs out.old out.new result
         (short_stop (length out.old) (length (marked_words list.now rows.now width n marks.now mark))) count
@@ -68,8 +64,8 @@ pub fn write_kept(
 {
     let needed = count * projecting::projected_width(list, width);
     if out.len() < needed {
-        return Written::Refused(Refusal::OutputShort(needed));
+        return Err(Refusal::OutputShort(needed));
     }
     projecting::write_rows(rows, width, n, list, marks, mark, out);
-    Written::Count(count)
+    Ok(count)
 }

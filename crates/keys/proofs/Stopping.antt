@@ -1,16 +1,15 @@
--- The checks of two rows, one after another: which one stops, and what is known where none does. Assumes nothing.
-use mathlib.Core.Path.{◌≡◌, sym}
-use mathlib.Core.Bool.{true, false}
+-- The checks of two rows: what is given where one of them stops, and what is known where none does. Assumes nothing.
+use mathlib.Core.Path.{◌≡◌}
 use mathlib.Core.List.{List, [], ◌∷◌}
 use Prim.Native.Nat.{ℕ, ◌≤◌}
 use native.Mathlib.Omega.{arith}
 use lib.ListN.{length, take}
 use lib.Seq.{length-take-le}
 use lib.Dec.{eqb}
-use borrow.Author.Tests.{eq-eqb, ne_eqb, eqb-true}
-use Rattle.refusals.specs.Stop.{Stop, never, stop, stop_of}
+use borrow.Author.Tests.{eqb-true}
+use Rattle.refusals.specs.Stop.{never, stop_of}
 use Rattle.refusals.specs.declared.Refusal.{Refusal}
-use Rattle.refusals.proofs.First.{never_both, nothing_behind}
+use Rattle.refusals.proofs.First.{never_both}
 use Rattle.slices.specs.Bytes.{both}
 use Rattle.slices.proofs.Both.{both_true}
 use Rattle.checks.specs.Check.{room_stop}
@@ -19,37 +18,6 @@ use Rattle.tables.specs.Table.{column_count, is_table, count_stop, words_stop}
 use Rattle.tables.proofs.Words.{words_sound, table_counted, count_right}
 use Rattle.keys.specs.Key.{key_order, pick, rows_stop, earlier_of}
 use Rattle.keys.specs.Comparable.{Comparable}
-
--- ---- which check stops
-
-module _ (columns : List ℕ) (size used : ℕ) (first second : List ℕ) where
-  abbrev stopped : Stop
-  stopped = rows_stop columns size used first second
-
-  -- 10
-  pub no_room : (r : Refusal) → room_stop 0 size used ≡ stop_of r → stop_of r ≡ stopped
-  no_room r e = rw e
-
-  module _ (room : room_stop 0 size used ≡ never) where
-    -- 8 for the count of columns, then for the length of each row
-    pub no_table : is_table columns ≡ false → stop 8 0 ≡ stopped
-    no_table e = rw (room, e)
-
-    module _ (table : is_table columns ≡ true) where
-      pub first_wrong : (length first ≡ column_count columns → ⊥) → stop 8 0 ≡ stopped
-      first_wrong n = rw (room, table, ne_eqb (length first) (column_count columns) n)
-
-      module _ (f : length first ≡ column_count columns) where
-        pub second_wrong : (length second ≡ column_count columns → ⊥) → stop 8 0 ≡ stopped
-        second_wrong n = rw (room, table, eq-eqb (length first) (column_count columns) f, ne_eqb (length second) (column_count columns) n)
-
-        -- 8 and 3 over the words
-        pub only_words : length second ≡ column_count columns → words_stop used (columns ∷ [] ∷ []) (first ∷ second ∷ []) ≡ stopped
-        only_words s =
-            rw (room, table, eq-eqb (length first) (column_count columns) f, eq-eqb (length second) (column_count columns) s)
-            (sym (nothing_behind (words_stop used (columns ∷ [] ∷ []) (first ∷ second ∷ []))))
-
--- ---- what is known then
 
 module _ (columns text : List ℕ) (used : ℕ) (first second : List ℕ) where
   -- a refusal gives the empty part

@@ -11,8 +11,8 @@ use lib.Signed.{lt_z}
 use borrow.Author.Tests.{lt-ltb, le-ltb, ltb-true, ltb-false}
 use Rattle.refusals.proofs.Bools.{true_false}
 use Rattle.slices.specs.Bytes.{by_tests, by_bytes}
-use Rattle.slices.specs.declared.Ordering.{Ordering}
-use Rattle.slices.specs.declared.Ordering.TheVariants.{Less, Equal, Greater}
+use Rattle.std.specs.declared.cmp.Ordering.{Ordering}
+use Rattle.std.specs.declared.cmp.Ordering.TheVariants.{Less, Equal, Greater}
 use Rattle.values.specs.Value.{Value, null, int, str, binary}
 use Rattle.values.specs.Order.{order}
 use Rattle.values.proofs.Ordered.{order_equal, tests_equal, ints_one_way}

@@ -3,8 +3,8 @@
 use Rattle.std.specs.Prelude.{ℕ, Bool, cond, List, [], ◌∷◌, length, take, eqb}
 use Rattle.refusals.specs.Stop.{Stop, first_of, unless_stopped}
 use Rattle.slices.specs.Bytes.{both}
-use Rattle.slices.specs.declared.Ordering.{Ordering}
-use Rattle.slices.specs.declared.Ordering.TheVariants.{Less, Equal, Greater}
+use Rattle.std.specs.declared.cmp.Ordering.{Ordering}
+use Rattle.std.specs.declared.cmp.Ordering.TheVariants.{Less, Equal, Greater}
 use Rattle.values.specs.Value.{Value}
 use Rattle.values.specs.Order.{order}
 use Rattle.rules.specs.Rule.{is_key}

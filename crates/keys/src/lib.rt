@@ -3,7 +3,7 @@
 
 ghost use Rattle.std.specs.Prelude.{◌≡◌, cond, length};
 ghost use Rattle.refusals.specs.Stop.{checked_of};
-ghost use Rattle.slices.specs.declared.Ordering.TheVariants.{Equal};
+ghost use Rattle.std.specs.declared.cmp.Ordering.TheVariants.{Equal};
 ghost use Rattle.cells.specs.Cell.{WellFormed};
 ghost use Rattle.values.specs.Value.{value_of};
 ghost use Rattle.values.specs.Order.{order};
@@ -11,8 +11,8 @@ ghost use Rattle.rules.specs.Rule.{is_key};
 ghost use Rattle.keys.specs.Key.{key_order, pick, rows_stop, earlier_of};
 ghost use Rattle.keys.specs.Comparable.{Comparable};
 
-use refusals::{Checked, Refusal};
-use slices::Ordering;
+use refusals::Refusal;
+use std::cmp::Ordering;
 
 // The order of two cells in a column of this rule: Equal where it is no key column.
 pub fn compare_column(rule: u64, a: u64, b: u64, stored: &[u8]) -> Ordering
@@ -30,13 +30,11 @@ pub fn compare_keys(columns: &[u64], stored: &[u8], first: &[u64], second: &[u64
     requires { Comparable columns.now (length stored.now) first.now second.now }
     ensures { result ≡ key_order columns.now stored.now first.now second.now }
 {
-    let mut i: usize = 0;
-    while i < first.len() {
+    for i in 0..first.len() {
         let order = compare_column(columns[2 * i + 1], first[i], second[i], stored);
         let Ordering::Equal = order else {
             return order;
         };
-        i += 1;
     }
     Ordering::Equal
 }
@@ -51,8 +49,7 @@ pub fn earlier_row<'a>(
     requires { Comparable columns.now (length stored.now) first.now second.now }
     ensures { result.now ≡ pick (key_order columns.now stored.now first.now second.now) first.now second.now }
 {
-    let order = compare_keys(columns, stored, first, second);
-    match order {
+    match compare_keys(columns, stored, first, second) {
         Ordering::Greater => second,
         _ => first,
     }
@@ -65,21 +62,18 @@ pub fn check_rows(
     used: usize,
     first: &[u64],
     second: &[u64],
-) -> Checked
+) -> Result<(), Refusal>
     ensures { checked_of result ≡ rows_stop columns.now size used first.now second.now }
 {
-    let room = checks::check_room(size, used, 0);
-    let Checked::Sound = room else {
-        return room;
-    };
+    checks::check_room(size, used, 0)?;
     if !tables::is_table(columns) {
-        return Checked::Refused(Refusal::Malformed(0));
+        return Err(Refusal::Malformed(0));
     }
     if first.len() != columns.len() / 2 {
-        return Checked::Refused(Refusal::Malformed(0));
+        return Err(Refusal::Malformed(0));
     }
     if second.len() != columns.len() / 2 {
-        return Checked::Refused(Refusal::Malformed(0));
+        return Err(Refusal::Malformed(0));
     }
     tables::check_words(columns, &columns[..0], first, second, used)
 }
@@ -94,8 +88,7 @@ pub fn earlier<'a>(
 ) -> &'a [u64]
     ensures { result.now ≡ earlier_of columns.now text.now used first.now second.now }
 {
-    let rows = check_rows(columns, text.len(), used, first, second);
-    let Checked::Sound = rows else {
+    let Ok(()) = check_rows(columns, text.len(), used, first, second) else {
         return &first[..0];
     };
     earlier_row(columns, &text[..used], first, second)

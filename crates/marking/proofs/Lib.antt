@@ -1,5 +1,4 @@
 -- What the proofs of several functions use, here and above.
 pub mod Lists
 pub mod Marking
-pub mod Whole
 pub mod Unique

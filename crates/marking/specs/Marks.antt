@@ -7,8 +7,8 @@ use Rattle.operators.specs.declared.Rules.{Rules}
 use Rattle.evaluation.specs.Evaluation.{is_row_length}
 use Rattle.testing.specs.Test.{test, room_for, Ready}
 use Rattle.marking.specs.RowList.{Test, is_true, true_rows, refused_from}
-use Rattle.marking.specs.declared.Marked.{Marked}
-use Rattle.marking.specs.declared.Marked.TheVariants.{Rows, Refused}
+use Rattle.std.specs.Prelude.{Result, Ok, Err}
+use Rattle.refusals.specs.declared.Refusal.{Refusal}
 
 -- the row of a number
 abbrev pub part : List ℕ → ℕ → ℕ → List ℕ
@@ -40,11 +40,11 @@ pub record MarkAsks (b : List ℕ) (used count n width : ℕ) (nodes rows text m
   pub table : TableAsks b used n width rows text marks
 
 -- every row is marked and the true ones are counted, or what stops it: what stopped it before the rows, then the first in row order
-abbrev pub Says : Stop → Test → ℕ → List ℕ → List ℕ → Marked → Type 0
-Says s t n before after (Rows k) = (or_else s (refused_from t 0 n) ≡ never) × (k ≡ length (true_rows t n)) × (after ≡ splice before 0 (flags_from t 0 n))
-Says s t n before after (Refused r) = or_else s (refused_from t 0 n) ≡ stop_of r
+abbrev pub Says : Stop → Test → ℕ → List ℕ → List ℕ → Result ℕ Refusal → Type 0
+Says s t n before after (Ok k) = (or_else s (refused_from t 0 n) ≡ never) × (k ≡ length (true_rows t n)) × (after ≡ splice before 0 (flags_from t 0 n))
+Says s t n before after (Err r) = or_else s (refused_from t 0 n) ≡ stop_of r
 
 -- the rows marked, by a condition that is prepared; text below the mark is as it was
-pub record MarkedIs (t : Test) (n used : ℕ) (text text' marks marks' : List ℕ) (r : Marked) : Type 0 where
+pub record MarkedIs (t : Test) (n used : ℕ) (text text' marks marks' : List ℕ) (r : Result ℕ Refusal) : Type 0 where
   pub kept : take used text' ≡ take used text
   pub says : Says never t n marks marks' r

@@ -7,16 +7,7 @@ ghost use Rattle.testing.specs.Test.{test, condition_stop, TestAsks};
 ghost use Rattle.marking.specs.Marks.{test_of, TableAsks, MarkAsks, MarkedIs};
 ghost use Rattle.marking.specs.Whole.{RowIs, TableIs};
 
-use forms::Scanned;
 use refusals::Refusal;
-use testing::Verdict;
-
-// How many rows are true, or the first refusal in row order.
-#[derive(Clone, Copy)]
-pub enum Marked {
-    Rows(usize),
-    Refused(Refusal),
-}
 
 // The row that has this place: 1 where the condition holds, 0 where it doesn't. No condition leaves the text alone.
 fn mark_row(
@@ -26,23 +17,19 @@ fn mark_row(
     text: &mut [u8],
     used: usize,
     place: usize,
-) -> Marked
+) -> Result<usize, Refusal>
     requires { (b : List ℕ) × TestAsks b used count nodes.now row.now text.old }
     ensures { (b : List ℕ) → TestAsks b used count nodes.now row.now text.old →
         RowIs used place count text.old text.new result (test base b used (take used text.old) row.now) }
 {
     if count == 0 {
-        return Marked::Rows(1);
+        return Ok(1);
     }
-    let tried = testing::try_row(nodes, count, row, text, used);
-    if tried < 2 {
-        return Marked::Rows(tried);
+    if let Some(holds) = testing::try_row(nodes, count, row, text, used) {
+        return Ok(holds as usize);
     }
-    match testing::test_row(nodes, count, row, text, used, place) {
-        Verdict::Yes => Marked::Rows(1),
-        Verdict::No => Marked::Rows(0),
-        Verdict::Refused(r) => Marked::Refused(r),
-    }
+    let holds = testing::test_row(nodes, count, row, text, used, place)?;
+    Ok(holds as usize)
 }
 
 // Every row of the table, in order: its mark, and how many are true; or the first refusal. No condition leaves the text alone.
@@ -55,7 +42,7 @@ pub fn mark_rows(
     text: &mut [u8],
     used: usize,
     marks: &mut [u64],
-) -> Marked
+) -> Result<usize, Refusal>
     requires { (b : List ℕ) × MarkAsks b used count n width nodes.now rows.now text.old marks.old }
     ensures by_index { (b : List ℕ) → MarkAsks b used count n width nodes.now rows.now text.old marks.old →
         MarkedIs (test_of base b used (take used text.old) rows.now width) n used text.old text.new
@@ -63,18 +50,13 @@ pub fn mark_rows(
     ensures text_unchanged { count ≡ 0 → text.new ≡ text.old }
 {
     let mut k: usize = 0;
-    let mut i: usize = 0;
-    while i < n {
+    for i in 0..n {
         let start = i * width;
-        let one = mark_row(nodes, count, &rows[start..start + width], text, used, i);
-        let Marked::Rows(mark) = one else {
-            return one;
-        };
+        let mark = mark_row(nodes, count, &rows[start..start + width], text, used, i)?;
         marks[i] = mark as u64;
         k += mark;
-        i += 1;
     }
-    Marked::Rows(k)
+    Ok(k)
 }
 
 // The same from the condition's bytes on: its own refusal comes before any row's.
@@ -86,15 +68,13 @@ pub fn mark_table(
     text: &mut [u8],
     used: usize,
     marks: &mut [u64],
-) -> Marked
+) -> Result<usize, Refusal>
     requires { TableAsks condition.now used n width rows.now text.old marks.old }
     ensures { TableIs condition.now (condition_stop used width condition.now)
         (test_of base condition.now used (take used text.old) rows.now width) n used
         text.old text.new marks.old marks.new result }
 {
     let mut nodes = [0u64; 64];
-    match testing::prepare(condition, width, used, &mut nodes) {
-        Scanned::Denied(r) => Marked::Refused(r),
-        Scanned::Table(count) => mark_rows(&nodes, count, rows, width, n, text, used, marks),
-    }
+    let count = testing::prepare(condition, width, used, &mut nodes)?;
+    mark_rows(&nodes, count, rows, width, n, text, used, marks)
 }

@@ -18,9 +18,7 @@ use Rattle.columns.proofs.Turns.{columns_turn}
 use Rattle.tables.specs.Table.{column_count}
 use Rattle.naming.specs.OneSide.{Head, joined, Named, name_of, rule_of, behind, of_name, side_of}
 use Rattle.naming.specs.Side.{NameAsks, NameIs, named_by, ahead, SideAsks, SideIs}
-use Rattle.naming.specs.declared.Name.{Name}
-use Rattle.naming.specs.declared.Name.TheVariants.{Word}
-use Rattle.naming.specs.declared.Joined.TheVariants.{Words, Refused}
+use Rattle.std.specs.Prelude.{Ok, Err, Option, Some, None}
 
 -- ---- words ahead
 
@@ -89,11 +87,14 @@ module _ (table columns : List ℕ) (nullable : Bool) (number used : ℕ) (text 
 
   module _ (text' words' : List ℕ) (top i : ℕ) (j : Joining table columns nullable number used text words text' words' top i) where
     -- all columns are joined
-    pub joining_end : column_count columns ≤ i → SideIs table columns nullable number used text text' words words' (Words (2 * (number + i)) top)
+    pub joining_end : column_count columns ≤ i → SideIs table columns nullable number used text text' words words' (Ok (2 * (number + i), top))
     joining_end h = record {
       says = λ rest. j.says rest ∙ ap (ahead (take (2 * (number + i)) words')) (no_column table nullable (drop (2 * i) columns) (number + i) rest (take top text') (rw length-drop (omega arith)));
       kept = j.kept;
-      ends = λ c m q. let e : 2 * (number + i) ≡ c = cc in let f : top ≡ m = cc in (omega (arith, j.passed), omega (arith, j.above), omega (arith, j.low, j.passed));
+      ends = λ c m q. let z : ◌≡◌ {A = ℕ × ℕ} (2 * (number + i), top) (c, m) = cc in
+          let e : 2 * (number + i) ≡ c = ap (λ p. p.0) z in
+          let f : top ≡ m = ap (λ p. p.1) z in
+          (omega (arith, j.passed), omega (arith, j.above), omega (arith, j.low, j.passed));
     }
 
     module _ (more : i < column_count columns) where
@@ -110,27 +111,27 @@ module _ (table columns : List ℕ) (nullable : Bool) (number used : ℕ) (text 
         small = omega (arith, j.long, asks.small);
       }
 
-      module _ (text'' : List ℕ) (answer : Name) (n : NameIs text' text'' top answer (name_of table (take top text') (get_or columns (2 * i) 0))) where
+      module _ (text'' : List ℕ) (answer : Option (ℕ × ℕ)) (n : NameIs text' text'' top answer (name_of table (take top text') (get_or columns (2 * i) 0))) where
         -- the text below the side's mark is kept
         still : take used text'' ≡ take used text
         still = sym (take-take used top text'' j.above) ∙ ap (take used) n.kept ∙ take-take used top text' j.above ∙ j.kept
 
         -- the side with this column's name known
-        step : (rest : List ℕ → Head) (a : Name) → answer ≡ a → ahead (take (2 * number) words) (side_of table nullable number columns rest (take used text))
+        step : (rest : List ℕ → Head) (a : Option (ℕ × ℕ)) → answer ≡ a → ahead (take (2 * number) words) (side_of table nullable number columns rest (take used text))
             ≡ ahead (take (2 * (number + i)) words') (of_name (named_by a text'') (number + i) (rule_of nullable (get_or columns (2 * i + 1) 0)) (λ s. side_of table nullable (suc (number + i)) (drop (2 * (i + 1)) columns) rest s))
         step rest a e = j.says rest
             ∙ ap (ahead (take (2 * (number + i)) words')) (one_column table nullable columns i (number + i) rest (take top text') (named_by a text'') more (n.says ∙ ap (λ x. named_by x text'') e))
 
         -- its name is too long: 7 at its number
-        pub joining_refused : answer ≡ Name.TooLong → SideIs table columns nullable number used text text'' words words' (Refused (TooLong (number + i)))
+        pub joining_refused : answer ≡ None → SideIs table columns nullable number used text text'' words words' (Err (TooLong (number + i)))
         joining_refused e = record {
-          says = λ rest. step rest Name.TooLong e;
+          says = λ rest. step rest None e;
           kept = still;
           ends = λ c m q. absurd (let z : ◌≡◌ {A = ℕ} 0 1 = cc in omega arith);
         }
 
         -- one more column is joined
-        pub joining_turn : (word mark rule : ℕ) → answer ≡ Word word mark → length text'' ≡ length text' → rule ≡ rule_of nullable (get_or columns (2 * i + 1) 0)
+        pub joining_turn : (word mark rule : ℕ) → answer ≡ Some (word, mark) → length text'' ≡ length text' → rule ≡ rule_of nullable (get_or columns (2 * i + 1) 0)
             → Joining table columns nullable number used text words text'' (set (set words' (2 * (number + i)) word) (2 * (number + i) + 1) rule) mark (i + 1)
         joining_turn word mark rule e f g =
             let m = n.rises word mark e in
@@ -139,7 +140,7 @@ module _ (table columns : List ℕ) (nullable : Bool) (number used : ℕ) (text 
             let w : take (2 * (number + (i + 1))) (set (set words' (2 * (number + i)) word) (2 * (number + i) + 1) rule) ≡ take (2 * (number + i)) words' ++ (word ∷ rule ∷ []) =
             two_more words' (2 * (number + i)) (2 * (number + (i + 1))) word rule (omega (arith, j.space, asks.space)) (omega arith) in
             record {
-              says = λ rest. step rest (Word word mark) e ∙ ahead_behind (take (2 * (number + i)) words') word (rule_of nullable (get_or columns (2 * i + 1) 0)) (side_of table nullable (suc (number + i)) (drop (2 * (i + 1)) columns) rest (take mark text''))
+              says = λ rest. step rest (Some (word, mark)) e ∙ ahead_behind (take (2 * (number + i)) words') word (rule_of nullable (get_or columns (2 * i + 1) 0)) (side_of table nullable (suc (number + i)) (drop (2 * (i + 1)) columns) rest (take mark text''))
                   ∙ (rw (w, g, s));
               kept = still;
               long = f ∙ j.long;

@@ -1,5 +1,5 @@
 -- One column's name in the joined table. Assumes nothing.
-use mathlib.Core.Path.{◌≡◌, refl, sym, ap₂, subst, ◌∙◌}
+use mathlib.Core.Path.{◌≡◌, refl, sym, ap, ap₂, subst, ◌∙◌}
 use mathlib.Core.List.{List, [], ◌∷◌, ◌++◌, append_assoc}
 use Prim.Native.Nat.{ℕ, ◌+◌, ◌*◌, ◌^◌, ◌≤◌, ◌<◌}
 use native.Mathlib.Omega.{arith}
@@ -13,7 +13,11 @@ use Rattle.cells.specs.Cell.{start_of, length_of, word_of}
 use Rattle.cells.specs.declared.ValueRef.TheVariants.{Str}
 use Rattle.naming.specs.OneSide.{named, prefixed, appended, name_of}
 use Rattle.naming.specs.Side.{NameAsks, NameIs}
-use Rattle.naming.specs.declared.Name.TheVariants.{Word, TooLong}
+use Rattle.std.specs.Prelude.{Option, Some, None}
+
+-- the second part of a pair that is told
+second_is : {w m w' m' : ℕ} → ◌≡◌ {A = Option (ℕ × ℕ)} (Some (w, m)) (Some (w', m')) → m ≡ m'
+second_is {w} {m} {w'} {m'} q = let z : ◌≡◌ {A = ℕ × ℕ} (w, m) (w', m') = cc in ap (λ p. p.1) z
 
 -- where the table name is empty the word is kept
 kept_word : (table stored : List ℕ) (word : ℕ) → length table ≡ 0 → name_of table stored word ≡ named word stored
@@ -36,8 +40,8 @@ module _ (table x : List ℕ) (word top : ℕ) (asks : NameAsks word top (length
   front_long = length-take-le top x (omega (arith, asks.room))
 
   -- no table name
-  pub name_kept : length table ≡ 0 → NameIs x x top (Word word top) (name_of table (take top x) word)
-  name_kept e = record { says = kept_word table (take top x) word e; kept = refl; rises = λ w m q. let z : top ≡ m = cc in (omega arith, omega arith) }
+  pub name_kept : length table ≡ 0 → NameIs x x top (Some (word, top)) (name_of table (take top x) word)
+  name_kept e = record { says = kept_word table (take top x) word e; kept = refl; rises = λ w m q. let z : top ≡ m = second_is q in (omega arith, omega arith) }
 
   module _ (some : length table ≡ 0 → ⊥) where
     -- the lengths of both names
@@ -48,7 +52,7 @@ module _ (table x : List ℕ) (word top : ℕ) (asks : NameAsks word top (length
     long = omega (arith, length-append table (46 ∷ column), column_long)
 
     -- a name over 255 bytes
-    pub name_refused : 255 < length table + 1 + length_of word → NameIs x x top TooLong (name_of table (take top x) word)
+    pub name_refused : 255 < length table + 1 + length_of word → NameIs x x top None (name_of table (take top x) word)
     name_refused h = record {
       says = new_word table (take top x) word some ∙ (rw (long, lt-leb (length table + 1 + length_of word) 255 h));
       kept = refl;
@@ -78,7 +82,7 @@ module _ (table x : List ℕ) (word top : ℕ) (asks : NameAsks word top (length
             subst (λ y. Wrote x top y end x₂) (append_assoc table (46 ∷ []) column) w
 
         -- its word and the new top
-        pub name_appended : NameIs x x₂ top (Word (2 ^ 57 + top * 65536 + (length table + 1 + length_of word)) end) (name_of table (take top x) word)
+        pub name_appended : NameIs x x₂ top (Some (2 ^ 57 + top * 65536 + (length table + 1 + length_of word), end)) (name_of table (take top x) word)
         unfolding word_of
         name_appended =
             let w : 2 ^ 57 + (length (take top x) * 65536 + length (prefixed table column)) ≡ 2 ^ 57 + top * 65536 + (length table + 1 + length_of word) = omega (arith, front_long, long) in
@@ -86,5 +90,5 @@ module _ (table x : List ℕ) (word top : ℕ) (asks : NameAsks word top (length
             record {
               says = new_word table (take top x) word some ∙ fits ∙ ap₂ named w (sym (wrote_front whole));
               kept = wrote_kept whole;
-              rises = λ v m q. let z : end ≡ m = cc in (omega (arith, whole.place), omega (arith, whole.place, long));
+              rises = λ v m q. let z : end ≡ m = second_is q in (omega (arith, whole.place), omega (arith, whole.place, long));
             }

@@ -6,10 +6,8 @@ use Rattle.cells.specs.Cell.{start_of, length_of}
 use Rattle.columns.specs.Column.{columns_stop}
 use Rattle.tables.specs.Table.{column_count}
 use Rattle.naming.specs.OneSide.{Head, joined, Named, named, too_long, side_of}
-use Rattle.naming.specs.declared.Name.{Name}
-use Rattle.naming.specs.declared.Name.TheVariants.{Word, TooLong}
-use Rattle.naming.specs.declared.Joined.{Joined}
-use Rattle.naming.specs.declared.Joined.TheVariants.{Words, Refused}
+use Rattle.std.specs.Prelude.{Result, Ok, Err, Option, Some, None}
+use Rattle.refusals.specs.declared.Refusal.{Refusal}
 
 -- ---- one name
 
@@ -20,15 +18,15 @@ pub record NameAsks (word top size : ℕ) : Type 0 where
   pub small : size ≤ 65536
 
 -- what an answer says of a name, in the text after it
-abbrev pub named_by : Name → List ℕ → Named
-named_by (Word word mark) text = named word (take mark text)
-named_by TooLong text = too_long
+abbrev pub named_by : Option (ℕ × ℕ) → List ℕ → Named
+named_by (Some (word, mark)) text = named word (take mark text)
+named_by None text = too_long
 
 -- an answer comes to this; the top rises by at most 255, and the text below it is kept
-pub record NameIs (text after : List ℕ) (top : ℕ) (answer : Name) (n : Named) : Type 0 where
+pub record NameIs (text after : List ℕ) (top : ℕ) (answer : Option (ℕ × ℕ)) (n : Named) : Type 0 where
   pub says : n ≡ named_by answer after
   pub kept : take top after ≡ take top text
-  pub rises : (word mark : ℕ) → answer ≡ Word word mark → (top ≤ mark) × (mark ≤ top + 255)
+  pub rises : (word mark : ℕ) → answer ≡ Some (word, mark) → (top ≤ mark) × (mark ≤ top + 255)
 
 -- ---- a side's columns
 
@@ -45,12 +43,12 @@ pub record SideAsks (columns text words : List ℕ) (number top : ℕ) : Type 0 
   pub space : 2 * (number + column_count columns) ≤ length words
 
 -- what is handed on after a side: the words and the text so far, or a refusal
-abbrev pub handed_on : Joined → List ℕ → List ℕ → (List ℕ → Head) → Head
-handed_on (Words count mark) words text rest = ahead (take count words) (rest (take mark text))
-handed_on (Refused r) words text rest = Head.refused (told r).number (told r).place
+abbrev pub handed_on : Result (ℕ × ℕ) Refusal → List ℕ → List ℕ → (List ℕ → Head) → Head
+handed_on (Ok (count, mark)) words text rest = ahead (take count words) (rest (take mark text))
+handed_on (Err r) words text rest = Head.refused (told r).number (told r).place
 
 -- a side's answer, words and text, whatever follows it
-pub record SideIs (table columns : List ℕ) (nullable : Bool) (number top : ℕ) (text after words after-words : List ℕ) (answer : Joined) : Type 0 where
+pub record SideIs (table columns : List ℕ) (nullable : Bool) (number top : ℕ) (text after words after-words : List ℕ) (answer : Result (ℕ × ℕ) Refusal) : Type 0 where
   pub says : (rest : List ℕ → Head) → ahead (take (2 * number) words) (side_of table nullable number columns rest (take top text)) ≡ handed_on answer after-words after rest
   pub kept : take top after ≡ take top text
-  pub ends : (count mark : ℕ) → answer ≡ Words count mark → (count ≡ 2 * (number + column_count columns)) × (top ≤ mark) × (mark ≤ top + 255 * column_count columns)
+  pub ends : (count mark : ℕ) → answer ≡ Ok (count, mark) → (count ≡ 2 * (number + column_count columns)) × (top ≤ mark) × (mark ≤ top + 255 * column_count columns)

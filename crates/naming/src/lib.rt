@@ -7,41 +7,28 @@ ghost use Rattle.naming.specs.Side.{NameAsks, NameIs, SideAsks, SideIs};
 
 use refusals::Refusal;
 
-// The words written and the new mark, or a refusal.
-#[derive(Clone, Copy)]
-pub enum Joined {
-    Words(usize, usize),
-    Refused(Refusal),
-}
-
-// A column's name word in the joined table and the new top, or that the name would have over 255 bytes.
-#[derive(Clone, Copy)]
-pub enum Name {
-    Word(u64, usize),
-    TooLong,
-}
-
-// A column's name in the joined table: kept where the table name is empty, else table name, dot and column name at the top.
-pub fn join_name(table: &[u8], word: u64, text: &mut [u8], top: usize) -> Name
+// A column's name word in the joined table and the new top: the name is kept where the table name is empty, else it is table name, dot and column name at
+// the top. Nothing where it would have over 255 bytes.
+pub fn join_name(table: &[u8], word: u64, text: &mut [u8], top: usize) -> Option<(u64, usize)>
     requires { NameAsks word top (length text.old) }
     ensures { NameIs text.old text.new top result (name_of table.now (take top text.old) word) }
 {
     if table.len() == 0 {
-        return Name::Word(word, top);
+        return Some((word, top));
     }
     let n = (word % 65536) as usize;
     let long = table.len() + 1 + n;
     if 255 < long {
-        return Name::TooLong;
+        return None;
     }
     let start = (word / 65536 % 0x1_0000_0000) as usize;
-    let dot = slices::copy_bytes(table, text, top);
+    let dot = slices::copy(table, text, top);
     text[dot] = b'.';
     let end = slices::copy_up(text, start, n, dot + 1);
-    Name::Word(
+    Some((
         0x200_0000_0000_0000 + (top as u64) * 65536 + (long as u64),
         end,
-    )
+    ))
 }
 
 // A column's rule in the joined table.
@@ -55,6 +42,7 @@ pub fn join_rule(rule: u64, nullable: bool) -> u64
 }
 
 // One side's columns, the first of which has this number in the joined table: their names at the top, their words in the joined table's.
+// It answers how many words there are so far, and the new top.
 pub fn join_side(
     table: &[u8],
     columns: &[u64],
@@ -63,22 +51,20 @@ pub fn join_side(
     text: &mut [u8],
     used: usize,
     words: &mut [u64],
-) -> Joined
+) -> Result<(usize, usize), Refusal>
     requires { SideAsks columns.now text.old words.old number used }
     ensures { SideIs table.now columns.now nullable number used text.old text.new words.old words.new result }
 {
     let mut top = used;
-    let mut i: usize = 0;
-    while i < columns.len() / 2 {
-        let name = join_name(table, columns[2 * i], text, top);
-        let Name::Word(word, end) = name else {
-            return Joined::Refused(Refusal::TooLong(number + i));
+    let n = columns.len() / 2;
+    for i in 0..n {
+        let Some((word, end)) = join_name(table, columns[2 * i], text, top) else {
+            return Err(Refusal::TooLong(number + i));
         };
         let at = 2 * (number + i);
         words[at] = word;
         words[at + 1] = join_rule(columns[2 * i + 1], nullable);
         top = end;
-        i += 1;
     }
-    Joined::Words(2 * (number + i), top)
+    Ok((2 * (number + n), top))
 }

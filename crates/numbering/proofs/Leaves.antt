@@ -11,8 +11,6 @@ use Rattle.slices.specs.Splice.{Wrote}
 use Rattle.slices.proofs.Splice.{wrote_front}
 use Rattle.cells.specs.Cell.{kind_of, start_of, length_of}
 use Rattle.columns.specs.Column.{found, names, first_from, column_named, found_of, or_next, nowhere}
-use Rattle.columns.specs.declared.Found.{Found}
-use Rattle.columns.specs.declared.Found.TheVariants.{At, Nothing}
 use Rattle.columns.specs.declared.ColumnNumber.{ColumnNumber}
 use Rattle.conditions.specs.Ast.{leaf, map_tree}
 use Rattle.nodes.specs.Kind.{body_of}
@@ -24,7 +22,7 @@ use Rattle.postfix.proofs.Reading.{leaf_width}
 use Rattle.numbering.specs.Number.{column_of, bind_leaf, names_stop}
 use Rattle.numbering.specs.Asked.{LeafAsks}
 use Rattle.numbering.specs.Walk.{Binds}
-use Rattle.numbering.specs.declared.Part.TheVariants.{Bound}
+use Rattle.std.specs.Prelude.{Ok, Option, Some, None}
 
 -- what is found is one of the elements
 pub first_below : {A : Type 0} (p : A → Bool) (n : ℕ) (l : List A) (m : ℕ) → first_from p n l ≡ found m → m < n + length l
@@ -50,7 +48,7 @@ number_below stored columns name m h e = omega (arith, first_below _ 0 (names st
 module _ {stored columns out : List ℕ} {w at end : ℕ} (A : LeafAsks stored columns out w at end) where
   -- a leaf written
   binds : (after : List ℕ) (p next x : ℕ) → names_stop stored columns at (leaf w) ≡ never → bind_leaf stored columns w ≡ x → Wrote out end (leaf_bytes x) p after
-      → next ≡ at + 1 + body_of (kind_of w) → Binds stored columns out after at end (leaf w) (Bound p next)
+      → next ≡ at + 1 + body_of (kind_of w) → Binds stored columns out after at end (leaf w) (Ok (p, next))
   unfolding map_tree bytes_of
   binds after p next x n e v f = (n, v.place ∙ rw e, wrote_front v ∙ rw e, omega (arith, length_body w))
 
@@ -71,7 +69,7 @@ module _ {stored columns out : List ℕ} {w at end : ℕ} (A : LeafAsks stored c
     other_stays = rw (ne_eqb (kind_of w) 3 other)
 
     -- it is written as it is
-    pub other_binds : (after : List ℕ) (p b : ℕ) → b ≡ body_of (kind_of w) → Wrote out end (leaf_bytes w) p after → Binds stored columns out after at end (leaf w) (Bound p (at + 1 + b))
+    pub other_binds : (after : List ℕ) (p b : ℕ) → b ≡ body_of (kind_of w) → Wrote out end (leaf_bytes w) p after → Binds stored columns out after at end (leaf w) (Ok (p, at + 1 + b))
     other_binds after p b e v = binds after p (at + 1 + b) w other_never other_stays v (ap (λ n. at + 1 + n) e)
 
   module _ (name : kind_of w ≡ 3) where
@@ -81,13 +79,13 @@ module _ {stored columns out : List ℕ} {w at end : ℕ} (A : LeafAsks stored c
     name_inside = rw (eq-eqb (kind_of w) 3 name, ne_eqb (kind_of w) 4 (λ f. omega (arith, name, f))) at A.held
 
     -- the name was looked for
-    module _ (r : Found) (q : found_of r ≡ column_of stored columns w) where
+    module _ (r : Option ColumnNumber) (q : found_of r ≡ column_of stored columns w) where
       -- it is no column's: 4, at the leaf's offset
-      pub name_missing : r ≡ Nothing → names_stop stored columns at (leaf w) ≡ stop 4 at
+      pub name_missing : r ≡ None → names_stop stored columns at (leaf w) ≡ stop 4 at
       unfolding names_stop
       name_missing e = rw (eq-eqb (kind_of w) 3 name, ← q, e)
 
-      module _ (m : ColumnNumber) (e : r ≡ At m) where
+      module _ (m : ColumnNumber) (e : r ≡ Some m) where
         -- it is a column's, so it is not missing
         name_never : names_stop stored columns at (leaf w) ≡ never
         unfolding names_stop
@@ -103,5 +101,5 @@ module _ {stored columns out : List ℕ} {w at end : ℕ} (A : LeafAsks stored c
         number_small = number_below stored columns _ m.0 A.few (sym q ∙ ap found_of e)
 
         -- it gives way to its number, and the offset after it is 7 bytes on
-        pub name_binds : (after : List ℕ) (p : ℕ) → Wrote out end (leaf_bytes (4 * 2 ^ 56 + m.0)) p after → Binds stored columns out after at end (leaf w) (Bound p (at + 7))
+        pub name_binds : (after : List ℕ) (p : ℕ) → Wrote out end (leaf_bytes (4 * 2 ^ 56 + m.0)) p after → Binds stored columns out after at end (leaf w) (Ok (p, at + 7))
         name_binds after p v = binds after p (at + 7) _ name_never name_numbered v (omega (arith, body_name (kind_of w) name))

@@ -5,17 +5,9 @@ ghost use Rattle.conditions.specs.Ast.{leaf};
 ghost use Rattle.numbering.specs.Asked.{LeafAsks};
 ghost use Rattle.numbering.specs.Walk.{Binds};
 
-use columns::Found;
 use refusals::Refusal;
 
-// A part of the condition bound: the place after its bytes and the offset after the part itself; or a refusal.
-#[derive(Clone, Copy)]
-pub enum Part {
-    Bound(usize, usize),
-    Refused(Refusal),
-}
-
-// A leaf: a name, of 7 bytes, gives way to its column's number, of 2; any other leaf is written as it is.
+// A leaf bound, with the place after its bytes and the offset after the leaf itself: a name, of 7 bytes, gives way to its column's number, of 2; any other leaf is written as it is.
 pub fn bind_leaf(
     word: u64,
     columns: &[u64],
@@ -23,22 +15,20 @@ pub fn bind_leaf(
     at: usize,
     out: &mut [u8],
     end: usize,
-) -> Part
+) -> Result<(usize, usize), Refusal>
     requires { LeafAsks stored.now columns.now out.old word at end }
     ensures { Binds stored.now columns.now out.old out.new at end (leaf word) result }
 {
     let kind = word / 0x100_0000_0000_0000;
     if kind != 3 {
         let next = at + 1 + nodes::body_of(kind);
-        return Part::Bound(postfix::write_leaf(word, out, end), next);
+        return Ok((postfix::write_leaf(word, out, end), next));
     }
     let start = (word / 65536 % 0x1_0000_0000) as usize;
     let past = start + (word % 65536) as usize;
-    match columns::find_column(columns, stored, &stored[start..past]) {
-        Found::Nothing => Part::Refused(Refusal::NoSuchColumn(at)),
-        Found::At(number) => {
-            let bound = 0x400_0000_0000_0000 + number.0 as u64;
-            Part::Bound(postfix::write_leaf(bound, out, end), at + 7)
-        }
-    }
+    let Some(number) = columns::find_column(columns, stored, &stored[start..past]) else {
+        return Err(Refusal::NoSuchColumn(at));
+    };
+    let bound = 0x400_0000_0000_0000 + number.0 as u64;
+    Ok((postfix::write_leaf(bound, out, end), at + 7))
 }

@@ -14,11 +14,11 @@ use Rattle.cells.proofs.Words.{ref_int, ref_str, ref_binary, ref_null}
 use Rattle.values.specs.Value.{Value, null, int, str, binary, to_value, value_of, from_bool}
 use Rattle.integers.specs.Outcome.{Outcome, value, gave, placed, reply_of}
 use Rattle.integers.specs.Integer.{fitted, is_int32, is_zero, is_amount, on_ints, negated, inverted}
-use Rattle.integers.specs.declared.Answer.{Answer}
-use Rattle.integers.specs.declared.Answer.TheVariants.{Gave}
 use Rattle.integers.proofs.Placing.{placed_null}
 use Rattle.operators.specs.Operator.{compared, joined, on_kinds, is_int_zero, binary_of, on_int, unary_of, text_after, Applied}
 use Rattle.operators.specs.declared.Rules.{Rules}
+use Rattle.std.specs.Prelude.{Result, Ok}
+use Rattle.integers.specs.declared.Fault.{Fault}
 
 -- ---- one of four operators
 
@@ -206,11 +206,11 @@ module _ (t : List ℕ) (top : ℕ) where
 
   -- ---- whole results
 
-  pub applied_null : (o : Outcome) → o ≡ value null → Applied t t top (Gave 0 top) o
+  pub applied_null : (o : Outcome) → o ≡ value null → Applied t t top (Ok (0, top)) o
   applied_null o e = record { reply = rw e (sym (placed_null top)); text = rw e }
 
-  pub applied_ints : (op : ℕ) (x y : ℤ) (r : Answer) (o : Outcome) → o ≡ on_ints op x y → reply_of r ≡ placed top (on_ints op x y) → Applied t t top r o
+  pub applied_ints : (op : ℕ) (x y : ℤ) (r : Result (ℕ × ℕ) Fault) (o : Outcome) → o ≡ on_ints op x y → reply_of r ≡ placed top (on_ints op x y) → Applied t t top r o
   applied_ints op x y r o e f = record { reply = rw e f; text = rw e (sym (plain_ints op x y).same) }
 
-  pub applied_flag : (b : Bool) (word : ℕ) (o : Outcome) → o ≡ value (from_bool b) → gave word top ≡ placed top (value (from_bool b)) → Applied t t top (Gave word top) o
+  pub applied_flag : (b : Bool) (word : ℕ) (o : Outcome) → o ≡ value (from_bool b) → gave word top ≡ placed top (value (from_bool b)) → Applied t t top (Ok (word, top)) o
   applied_flag b word o e f = record { reply = rw e f; text = rw e (sym (plain_flag b).same) }

@@ -13,9 +13,9 @@ use Rattle.cells.specs.Cell.{WellFormed, kind_of, start_of, length_of, word_of}
 use Rattle.cells.proofs.Stops.{never_stops, ends_inside}
 use Rattle.values.specs.Value.{str}
 use Rattle.integers.specs.Outcome.{Outcome, value, placed, gave}
-use Rattle.integers.specs.declared.Answer.TheVariants.{Gave}
 use Rattle.operators.specs.Operator.{joined, Applied, Room}
 use Rattle.operators.specs.declared.Rules.{Rules}
+use Rattle.std.specs.Prelude.{Ok}
 
 -- a text cell ends at or before the mark
 pub inside : (top a : ℕ) → kind_of a ≡ 2 → WellFormed top a → start_of a + length_of a ≤ top
@@ -69,7 +69,7 @@ module _ (R : Rules) (x : List ℕ) (top : ℕ) (room : Room R top (length x)) (
         unfolding joined
         fits = rw (left_long, right_long, le-leb (n + m) R.limit l)
 
-        pub join_applied : Applied x x₂ top (Gave (2 ^ 57 + top * 65536 + (n + m)) end) (joined R.limit left right)
+        pub join_applied : Applied x x₂ top (Ok (2 ^ 57 + top * 65536 + (n + m), end)) (joined R.limit left right)
         unfolding placed word_of
         join_applied =
             let w : 2 ^ 57 + top * 65536 + (n + m) ≡ 2 ^ 57 + (top * 65536 + length (left ++ right)) = omega (arith, long) in

@@ -2,13 +2,14 @@
 use Rattle.std.specs.Prelude.{ℕ, ◌+◌, ◌≤◌, ◌≡◌, Bool, false, not, cond, List, ◌++◌, length, ltb, leb, eqb, ℤ}
 use Rattle.slices.specs.Splice.{splice}
 use Rattle.slices.specs.Bytes.{both, is_equal, is_less, is_greater}
-use Rattle.slices.specs.declared.Ordering.{Ordering}
+use Rattle.std.specs.declared.cmp.Ordering.{Ordering}
 use Rattle.values.specs.Value.{Value, null, int, str, binary, to_bool, from_bool}
 use Rattle.values.specs.Order.{order}
 use Rattle.integers.specs.Outcome.{Outcome, value, reply_of, placed}
 use Rattle.integers.specs.Integer.{is_zero, on_ints, negated, inverted}
-use Rattle.integers.specs.declared.Answer.{Answer}
 use Rattle.operators.specs.declared.Rules.{Rules}
+use Rattle.std.specs.Prelude.{Result}
+use Rattle.integers.specs.declared.Fault.{Fault}
 
 -- 32 to 37, in this order: = != < <= > >=
 unfoldable pub holds : ℕ → Ordering → Bool
@@ -74,7 +75,7 @@ text_after text top (value binary) = text
 text_after text top (Outcome.refused number) = text
 
 -- the whole of what an operator gives: its answer, and the text after it
-pub record Applied (before after : List ℕ) (top : ℕ) (answer : Answer) (outcome : Outcome) : Type 0 where
+pub record Applied (before after : List ℕ) (top : ℕ) (answer : Result (ℕ × ℕ) Fault) (outcome : Outcome) : Type 0 where
   pub reply : reply_of answer ≡ placed top outcome
   pub text : after ≡ text_after before top outcome
 

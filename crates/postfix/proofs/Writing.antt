@@ -4,11 +4,10 @@ use mathlib.Core.List.{List, ◌∷◌}
 use Prim.Native.Nat.{ℕ, zero, suc, ◌+◌, ◌-◌, ◌/◌, ◌%◌, ◌≤◌, ◌<◌}
 use native.Mathlib.Omega.{arith}
 use native.Mathlib.Numerals.{add-one}
-use native.Mathlib.Nat.{sub-zero}
 use lib.ListN.{length, drop, set, get_or, length-set}
 use lib.Seq.{drop-cons}
 use Rattle.slices.specs.Splice.{Wrote}
-use Rattle.slices.proofs.Splice.{Copying, copying_start, copying_turn, copying_end, splice_set}
+use Rattle.slices.proofs.Splice.{Copying, copying_turn, copying_end, splice_set}
 use Rattle.postfix.specs.Postfix.{little}
 
 -- a number in n bytes has n bytes
@@ -26,10 +25,6 @@ little_next m n x e = rw e
 pub record Writing (n x : ℕ) (d : List ℕ) (at : ℕ) (out : List ℕ) (rest i : ℕ) : Type 0 where
   pub copying : Copying (little n x) d at out i
   pub left : drop i (little n x) ≡ little (n - i) rest
-
--- nothing is written yet
-pub writing_start : (n x : ℕ) (d : List ℕ) (at : ℕ) → Writing n x d at d x 0
-writing_start n x d at = record { copying = copying_start _ _ _; left = rw sub-zero }
 
 module _ {n x : ℕ} {d : List ℕ} {at : ℕ} {out : List ℕ} {rest i : ℕ} (w : Writing n x d at out rest i) (room : at + n ≤ length d) where
   -- there is room for the number's bytes

@@ -12,11 +12,9 @@ pub fn write_little(x: u64, n: usize, out: &mut [u8], at: usize) -> usize
     ensures { Wrote out.old at (little n x) result out.new }
 {
     let mut rest = x;
-    let mut i: usize = 0;
-    while i < n {
+    for i in 0..n {
         out[at + i] = (rest % 256) as u8;
         rest = rest / 256;
-        i += 1;
     }
     at + n
 }

@@ -1,11 +1,11 @@
 -- Refusal 15 from an offset on: a node of an accepted condition, a turn of the loop over them, and its end. Assumes nothing.
 use mathlib.Core.Path.{◌≡◌, refl, sym, ap, ◌∙◌}
 use mathlib.Core.Bool.{Bool, true, false}
-use mathlib.Core.List.{List, []}
+use mathlib.Core.List.{List}
 use Prim.Native.Nat.{ℕ, zero, suc, ◌+◌, ◌≤◌, ◌<◌}
 use native.Mathlib.Omega.{arith}
 use lib.ListN.{length, get_or}
-use borrow.Author.Tests.{lt-ltb, le-ltb, eq-eqb, ne_eqb, leb-true}
+use borrow.Author.Tests.{lt-ltb, le-ltb, eq-eqb, leb-true}
 use Rattle.refusals.specs.Stop.{never, stop}
 use Rattle.slices.specs.Splice.{piece}
 use Rattle.cells.specs.Cell.{start_of, length_of}
@@ -13,7 +13,7 @@ use Rattle.conditions.specs.Ast.{Tree}
 use Rattle.nodes.specs.Kind.{body_of, leaf_word, text_fits, two, four}
 use Rattle.nodes.specs.declared.Allowed.TheVariants.{Named}
 use Rattle.nodes.proofs.Bodies.{body_text}
-use Rattle.forms.specs.Form.{tree, refusal, Move, go, follow, parse, parsed}
+use Rattle.forms.specs.Form.{tree, refusal, Move, go, follow, parse}
 use Rattle.forms.proofs.Scanning.{parse_more, parse_full}
 use Rattle.nodes.proofs.Numbers.{Small, two_small, four_small}
 use Rattle.postfix.proofs.Parsing.{node, Went, Became, put, node_went}
@@ -23,20 +23,15 @@ use Rattle.printing.specs.Prepare.{TextInside}
 
 -- ---- one node
 
-module _ (stored b : List ℕ) (at : ℕ) where
-  -- no text literal
-  pub other_kind : (get_or b at 0 ≡ 2 → ⊥) → is_unprintable stored b at ≡ false
-  other_kind h = rw (ne_eqb (get_or b at 0) 2 h)
+module _ (stored b : List ℕ) (at : ℕ) (e : get_or b at 0 ≡ 2) where
+  -- its bytes decide
+  text_kind : is_unprintable stored b at ≡ has_high (piece (four b (at + 1)) (two b (at + 5)) stored)
+  text_kind = rw (eq-eqb (get_or b at 0) 2 e)
 
-  module _ (e : get_or b at 0 ≡ 2) where
-    -- its bytes decide
-    text_kind : is_unprintable stored b at ≡ has_high (piece (four b (at + 1)) (two b (at + 5)) stored)
-    text_kind = rw (eq-eqb (get_or b at 0) 2 e)
-
-    -- its body is six bytes
-    pub body_inside : TextInside stored b at → at + 1 + body_of 2 ≤ length b
-    unfolding body_of
-    body_inside h = omega (arith, (h e).0)
+  -- its body is six bytes
+  pub body_inside : TextInside stored b at → at + 1 + body_of 2 ≤ length b
+  unfolding body_of
+  body_inside h = omega (arith, (h e).0)
 
 module _ (b : List ℕ) (B : Small b) (at : ℕ) where
   -- the word of a text literal has its start
@@ -67,10 +62,6 @@ pub record Left (stored b : List ℕ) (at : ℕ) : Type 0 where
   pub whole : Tree ℕ
   pub reads : parse Named (length stored) b fuel at stack ≡ tree whole
   pub stops : texts_stop stored b 64 0 ≡ texts_stop stored b fuel at
-
--- nothing was looked at yet
-pub left_start : (stored b : List ℕ) (t : Tree ℕ) → parsed Named (length stored) b ≡ tree t → Left stored b 0
-left_start stored b t e = record { fuel = 64; stack = []; whole = t; reads = e; stops = refl }
 
 -- a tree is no refusal
 no_tree : {X : Type 0} (n p : ℕ) (t : Tree ℕ) → refusal n p ≡ tree t → X

@@ -4,7 +4,6 @@ use Rattle.refusals.specs.Stop.{Stop, never, stop_if, or_else, first_of}
 use Rattle.slices.specs.Splice.{piece}
 use Rattle.slices.specs.Bytes.{both}
 use Rattle.writing.specs.Writing.{WrittenIs}
-use Rattle.writing.specs.declared.Written.{Written}
 use Rattle.checks.specs.Check.{room_stop, short_stop}
 use Rattle.conditions.specs.Ast.{map_tree}
 use Rattle.conditions.specs.Table.{leaf_of}
@@ -13,6 +12,8 @@ use Rattle.nodes.specs.declared.Allowed.TheVariants.{Named}
 use Rattle.forms.specs.Form.{Parsed, tree, refusal, parsed, form_stop}
 use Rattle.quoting.specs.Quote.{has_high}
 use Rattle.spelling.specs.Spell.{printed}
+use Rattle.std.specs.Prelude.{Result}
+use Rattle.refusals.specs.declared.Refusal.{Refusal}
 
 -- a text literal with a byte of 128 or more, at an offset of the condition's bytes
 abbrev pub is_unprintable : List ℕ → List ℕ → ℕ → Bool
@@ -40,7 +41,7 @@ print_stop b stored size used output =
     ∷ [])
 
 -- what `print` answers and writes
-abbrev pub PrintIs : List ℕ → List ℕ → ℕ → ℕ → List ℕ → List ℕ → Written → Type 0
+abbrev pub PrintIs : List ℕ → List ℕ → ℕ → ℕ → List ℕ → List ℕ → Result ℕ Refusal → Type 0
 PrintIs b stored size used before after answer =
     WrittenIs before after answer (print_stop b stored size used (length before)) (length (printed_all stored (parsed Named used b)))
     (printed_all stored (parsed Named used b))

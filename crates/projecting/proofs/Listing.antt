@@ -49,11 +49,6 @@ list_sound width p (c ∷ list) h (suc i) l = list_sound width (suc p) list (nev
 
 -- ---- a row's listed columns
 
--- an empty list means all
-pub all_columns : (list row : List ℕ) → length list ≡ 0 → row ≡ projected list row
-all_columns [] row e = refl
-all_columns (c ∷ list) row e = absurd (let z : ⊥ = omega arith in z)
-
 -- a list that isn't empty gives the row's cells at its numbers
 pub some_columns : (list row : List ℕ) → (length list ≡ 0 → ⊥) → projected list row ≡ map (λ i. get_or row i 0) list
 some_columns [] row n = absurd (n refl)

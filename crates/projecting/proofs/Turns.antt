@@ -1,10 +1,9 @@
 -- Rows written one after another: the invariant of the loop, a row passed by, a row written, and the end. Assumes nothing.
-use mathlib.Core.Path.{◌≡◌, refl, sym, ap, subst, ◌∙◌}
+use mathlib.Core.Path.{◌≡◌, sym, ap, subst, ◌∙◌}
 use mathlib.Core.Bool.{Bool, true, false}
 use mathlib.Core.List.{List, [], ◌++◌}
 use Prim.Native.Nat.{ℕ, ◌+◌, ◌-◌, ◌*◌, ◌≤◌, ◌<◌}
 use native.Mathlib.Omega.{arith}
-use native.Mathlib.Nat.{sub-zero}
 use lib.ListN.{length, get_or, length-append}
 use borrow.Author.Tests.{eq-eqb}
 use Rattle.refusals.specs.Stop.{never}
@@ -29,10 +28,6 @@ pub record Writing (row : ℕ → List ℕ) (keeps : ℕ → Bool) (n : ℕ) (d 
   pub list : splice out at (rest row keeps n i) ≡ splice d 0 (words_of row (kept_from keeps 0 n))
 
 module _ (row : ℕ → List ℕ) (keeps : ℕ → Bool) (n : ℕ) (d : List ℕ) where
-  -- nothing is written yet
-  pub writing_start : Writing row keeps n d d 0 0
-  writing_start = record { below = omega arith; long = refl; place = rw sub-zero (omega arith); list = rw sub-zero }
-
   module _ (out : List ℕ) (at i : ℕ) (W : Writing row keeps n d out at i) (room : length (words_of row (kept_from keeps 0 n)) ≤ length d) where
     -- all is written
     pub writing_end : n ≤ i → Wrote d 0 (words_of row (kept_from keeps 0 n)) at out

@@ -6,20 +6,18 @@ ghost use Rattle.slices.specs.Splice.{Wrote};
 ghost use Rattle.refusals.specs.Stop.{never, checked_of};
 ghost use Rattle.projecting.specs.Project.{projected, list_stop, marked_words, RowsAsked};
 
-use refusals::{Checked, Refusal};
+use refusals::Refusal;
 
 // What is wrong with a list of columns.
-pub fn check_list(list: &[u64], width: usize) -> Checked
+pub fn check_list(list: &[u64], width: usize) -> Result<(), Refusal>
     ensures { checked_of result ≡ list_stop width 0 list.now }
 {
-    let mut i: usize = 0;
-    while i < list.len() {
-        if width as u64 <= list[i] {
-            return Checked::Refused(Refusal::NoSuchColumn(i));
+    for (i, column) in list.iter().enumerate() {
+        if width as u64 <= *column {
+            return Err(Refusal::NoSuchColumn(i));
         }
-        i += 1;
     }
-    Checked::Sound
+    Ok(())
 }
 
 // How many words a row of this width takes once it is projected.
@@ -38,12 +36,10 @@ pub fn project(row: &[u64], list: &[u64], out: &mut [u64], at: usize) -> usize
     ensures { Wrote out.old at (projected list.now row.now) result out.new }
 {
     if list.len() == 0 {
-        return slices::copy_words(row, out, at);
+        return slices::copy(row, out, at);
     }
-    let mut i: usize = 0;
-    while i < list.len() {
-        out[at + i] = row[list[i] as usize];
-        i += 1;
+    for (i, column) in list.iter().enumerate() {
+        out[at + i] = row[*column as usize];
     }
     at + list.len()
 }
@@ -62,14 +58,11 @@ pub fn write_rows(
     ensures { Wrote out.old 0 (marked_words list.now rows.now width n marks.now mark) result out.new }
 {
     let mut at: usize = 0;
-    let mut i: usize = 0;
-    while i < n {
-        let start = i * width;
-        let found = marks[i];
-        i += 1;
-        if found != mark {
+    for i in 0..n {
+        if marks[i] != mark {
             continue;
         }
+        let start = i * width;
         at = project(&rows[start..start + width], list, out, at);
     }
     at

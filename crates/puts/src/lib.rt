@@ -33,10 +33,8 @@ pub fn put_bytes(bytes: &[u8], out: &mut [u8], at: usize) -> usize
     ensures { Puts out.old at bytes.now result out.new }
 {
     let mut next = at;
-    let mut i: usize = 0;
-    while i < bytes.len() {
-        next = put_byte(bytes[i], out, next);
-        i += 1;
+    for b in bytes {
+        next = put_byte(*b, out, next);
     }
     next
 }

@@ -4,6 +4,7 @@ use mathlib.Core.List.{List}
 use Prim.Native.Nat.{ℕ, suc, ◌≤◌}
 use native.Mathlib.Omega.{arith}
 use lib.ListN.{length, get_or}
+use Rattle.std.specs.Prelude.{Some, IfSome}
 use Rattle.cells.specs.Cell.{kind_of, start_of}
 use Rattle.cells.proofs.Stops.{never_stops}
 use Rattle.values.specs.Value.{value_of}
@@ -12,7 +13,6 @@ use Rattle.integers.proofs.Unique.{one_value}
 use Rattle.conditions.specs.Table.{node_of, LiesAt}
 use Rattle.conditions.specs.declared.Node.{Node}
 use Rattle.conditions.specs.declared.Node.TheVariants.{Leaf, One, Two}
-use Rattle.wordwise.specs.Settled.{nothing}
 use Rattle.quick.specs.Quick.{Found}
 
 module _ (depth k : ℕ) (nodes row stored : List ℕ) (r s : ℕ) (f : Found depth k nodes row stored r) (g : Found depth k nodes row stored s) where
@@ -36,6 +36,6 @@ module _ (depth k : ℕ) (nodes row stored : List ℕ) (r s : ℕ) (f : Found de
   one_found = by_node (node_of (get_or nodes k 0)) f.lies g.lies
 
 -- whether a word is told is left open (docs/EXCEPTIONS.md)
-pub one_word : (depth k : ℕ) (nodes row stored : List ℕ) (r s : ℕ) → (r ≡ nothing → ⊥) → (s ≡ nothing → ⊥)
-    → ((r ≡ nothing → ⊥) → Found depth k nodes row stored r) → ((s ≡ nothing → ⊥) → Found depth k nodes row stored s) → r ≡ s
-one_word depth k nodes row stored r s n m f g = one_found depth k nodes row stored r s (f n) (g m)
+pub one_word : (depth k : ℕ) (nodes row stored : List ℕ) (r s : ℕ)
+    → IfSome (Some r) (Found depth k nodes row stored) → IfSome (Some s) (Found depth k nodes row stored) → r ≡ s
+one_word depth k nodes row stored r s f g = one_found depth k nodes row stored r s f g

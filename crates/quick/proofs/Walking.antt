@@ -6,11 +6,11 @@ use Prim.Native.Nat.{ℕ, ◌-◌, ◌≤◌}
 use native.Mathlib.Omega.{arith}
 use lib.ListN.{length, take, get_or}
 use lib.Seq.{length-take-le}
+use Rattle.std.specs.Prelude.{Option, Some, None, IfSome, Ok}
 use Rattle.cells.specs.Cell.{WellFormed}
 use Rattle.cells.proofs.Stops.{inside_more}
 use Rattle.values.specs.Value.{value_of, to_bool, from_bool}
 use Rattle.integers.specs.Outcome.{value, gave, placed}
-use Rattle.integers.specs.declared.Answer.TheVariants.{Gave}
 use Rattle.operators.specs.Operator.{unary_of}
 use Rattle.operators.specs.declared.Rules.{Rules}
 use Rattle.operators.proofs.Holding.{holds_unary, holds_truth}
@@ -19,7 +19,8 @@ use Rattle.conditions.specs.Table.{node_of, LeafSound, Sound, row_of, RowSound, 
 use Rattle.conditions.specs.declared.Node.TheVariants.{Leaf, One, Two}
 use Rattle.conditions.proofs.Giving.{value_more}
 use Rattle.conditions.proofs.Descent.{OneSound, TwoSound, sound_leaf, sound_one, sound_two}
-use Rattle.wordwise.specs.Settled.{nothing, Settled, on_both}
+use Rattle.wordwise.specs.Settled.{Settled, on_both}
+use Rattle.wordwise.proofs.Settling.{settled}
 use Rattle.wordwise.proofs.Worth.{Worth, worth, holds_both}
 use Rattle.quick.specs.Quick.{Stands, Found}
 
@@ -48,11 +49,12 @@ module _ (d k : ℕ) (nodes row stored : List ℕ) (S : Stands d k nodes row sto
     one_stands = record { sound = one.only; rows = S.rows }
 
     -- the operator's word from the operand's
-    pub one_found : (v r : ℕ) → Found (d - 1) (k - 1) nodes row stored v → (r ≡ nothing → ⊥)
-        → ((R : Rules) (x : List ℕ) → WellFormed (length x) v → Settled r (unary_of R op (value_of x v))) → Found d k nodes row stored r
+    pub one_found : (v : ℕ) (r : Option ℕ) → Found (d - 1) (k - 1) nodes row stored v
+        → ((R : Rules) (x : List ℕ) → WellFormed (length x) v → Settled r (unary_of R op (value_of x v))) → IfSome r (Found d k nodes row stored)
     unfolding eval
-    one_found v r g n f =
-        let z : (R : Rules) → Worth stored r (unary_of R op (value_of stored v)) = λ R. worth stored 0 r _ (holds_unary 0 R op _) n (f R stored g.within) in
+    one_found v None g f = tt
+    one_found v (Some r) g f =
+        let z : (R : Rules) → Worth stored r (unary_of R op (value_of stored v)) = λ R. worth stored 0 r _ (holds_unary 0 R op _) (f R stored g.within) in
         let y = z (record { limit = 0 }) in
         record {
           means = λ R. rw (one.tree stored, g.means R) (z R).means;
@@ -76,10 +78,10 @@ module _ (d k : ℕ) (nodes row stored : List ℕ) (S : Stands d k nodes row sto
     module _ (v : ℕ) (g : Found (d - 1) l nodes row stored v) where
       -- the left operand decides
       pub left_found : (r : ℕ) (y : Bool) → decides op (value_of stored v) ≡ true → y ≡ to_bool (value_of stored v)
-          → (r ≡ nothing → ⊥) → ((top : ℕ) → gave r top ≡ placed top (value (from_bool y))) → Found d k nodes row stored r
+          → ((top : ℕ) → gave r top ≡ placed top (value (from_bool y))) → Found d k nodes row stored r
       unfolding eval
-      left_found r y t j n f =
-          let z = worth stored 0 r (value (from_bool y)) (holds_truth 0 y) n (record { told = λ m. f }) in
+      left_found r y t j f =
+          let z = worth stored 0 r (value (from_bool y)) (holds_truth 0 y) (settled r _ f) in
           record {
             means = λ R. rw (two.tree stored, g.means R, t, ← j) z.means;
             within = z.within;
@@ -87,11 +89,12 @@ module _ (d k : ℕ) (nodes row stored : List ℕ) (S : Stands d k nodes row sto
           }
 
       -- the right one has a word too
-      pub two_found : (w r : ℕ) → Found (d - 1) (k - 1) nodes row stored w → (r ≡ nothing → ⊥)
-          → ((R : Rules) → Settled r (on_both R op (value_of stored v) (value_of stored w))) → Found d k nodes row stored r
+      pub two_found : (w : ℕ) (r : Option ℕ) → Found (d - 1) (k - 1) nodes row stored w
+          → ((R : Rules) → Settled r (on_both R op (value_of stored v) (value_of stored w))) → IfSome r (Found d k nodes row stored)
       unfolding eval on_both
-      two_found w r i n f =
-          let z : (R : Rules) → Worth stored r (on_both R op (value_of stored v) (value_of stored w)) = λ R. worth stored R.limit r _ (holds_both R op stored v w) n (f R) in
+      two_found w None i f = tt
+      two_found w (Some r) i f =
+          let z : (R : Rules) → Worth stored r (on_both R op (value_of stored v) (value_of stored w)) = λ R. worth stored R.limit r _ (holds_both R op stored v w) (f R) in
           let y = z (record { limit = 0 }) in
           record {
             means = λ R. rw (two.tree stored, g.means R, i.means R) (z R).means;
@@ -115,7 +118,7 @@ module _ (R : Rules) (used top d k : ℕ) (nodes row text : List ℕ) (A : Asks 
         rows = subst (λ n. RowSound n row) (sym stored_long) A.rows;
       }
 
-  pub found_answers : (r : ℕ) → Found d k nodes row (take used text) r → Answers R used top d k nodes row text text (Gave r top) × Lies top (node_of (get_or nodes k 0)) row (Gave r top)
+  pub found_answers : (r : ℕ) → Found d k nodes row (take used text) r → Answers R used top d k nodes row text text (Ok (r, top)) × Lies top (node_of (get_or nodes k 0)) row (Ok (r, top))
   found_answers r f =
       let h : WellFormed used r = subst (λ n. WellFormed n r) stored_long f.within in (
         record {

@@ -1,14 +1,15 @@
 -- Laws of a quoted text: a byte escaped, bytes one after another, and how long they get; bytes of 128 or more. Assumes nothing.
-use mathlib.Core.Path.{◌≡◌, ◌∙◌}
-use mathlib.Core.Bool.{Bool, true, false, cond}
+use mathlib.Core.Path.{◌≡◌, refl, ◌∙◌}
+use mathlib.Core.Bool.{Bool, true, false, cond, ◌||◌}
 use mathlib.Core.List.{List, [], ◌∷◌, ◌++◌}
 use Prim.Native.Nat.{ℕ, ◌+◌, ◌*◌, ◌/◌, ◌%◌, ◌≤◌, ◌<◌}
 use native.Mathlib.Omega.{arith}
 use native.Mathlib.Numerals.{add-one}
 use lib.ListN.{length, drop, get_or, length-append, drop_of_length-le}
 use lib.Seq.{drop-cons}
-use lib.Dec.{ltb, eqb}
-use borrow.Author.Tests.{lt-ltb, le-ltb, le-leb, lt-leb, ne_eqb}
+use lib.Dec.{ltb, leb, eqb}
+use Rattle.std.specs.List.{list_any}
+use borrow.Author.Tests.{lt-ltb, le-ltb, ne_eqb}
 use Rattle.puts.proofs.Putting.{either}
 use Rattle.quoting.specs.Quote.{hex_digit, hex, is_control, escaped, escaped_all, quoted, has_high}
 
@@ -74,19 +75,12 @@ quoted_short l = rw length-append (omega (arith, all_short l))
 
 -- ---- bytes of 128 or more
 
-module _ (l : List ℕ) (i : ℕ) where
-  -- nothing is left
-  pub high_end : length l ≤ i → has_high (drop i l) ≡ false
-  unfolding has_high
-  high_end h = rw (drop_of_length-le l h)
-
-  module _ (h : i < length l) where
-    -- such a byte
-    pub high_here : 128 ≤ get_or l i 0 → has_high (drop i l) ≡ true
-    unfolding has_high
-    high_here k = rw (drop-cons l i 0 h, le-leb 128 (get_or l i 0) k)
-
-    -- any other byte: the rest decides
-    pub low_here : get_or l i 0 < 128 → has_high (drop i l) ≡ has_high (drop (i + 1) l)
-    unfolding has_high
-    low_here k = rw (drop-cons l i 0 h, lt-leb 128 (get_or l i 0) k, add-one i)
+-- a list has one exactly if one passes the test
+pub high_any : (l : List ℕ) → list_any (leb 128) l ≡ has_high l
+unfolding has_high
+high_any [] = refl
+high_any (b ∷ l) = rw (high_any l) (go (leb 128 b))
+  where
+    go : (t : Bool) → (t || has_high l) ≡ cond t true (has_high l)
+    go true = refl
+    go false = refl

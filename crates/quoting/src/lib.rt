@@ -82,10 +82,8 @@ pub fn put_text(bytes: &[u8], out: &mut [u8], at: usize) -> usize
     ensures { Puts out.old at (quoted bytes.now) result out.new }
 {
     let mut next = puts::put_byte(b'"', out, at);
-    let mut i: usize = 0;
-    while i < bytes.len() {
-        next = put_escaped(bytes[i], out, next);
-        i += 1;
+    for b in bytes {
+        next = put_escaped(*b, out, next);
     }
     puts::put_byte(b'"', out, next)
 }
@@ -94,12 +92,5 @@ pub fn put_text(bytes: &[u8], out: &mut [u8], at: usize) -> usize
 pub fn has_high(bytes: &[u8]) -> bool
     ensures { result ≡ has_high bytes.now }
 {
-    let mut i: usize = 0;
-    while i < bytes.len() {
-        if 128 <= bytes[i] {
-            return true;
-        }
-        i += 1;
-    }
-    false
+    bytes.iter().any(|b| 128 <= *b)
 }

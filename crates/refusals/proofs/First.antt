@@ -5,25 +5,38 @@ use Prim.Native.Nat.{ℕ}
 use native.Mathlib.Omega.{arith}
 use Rattle.refusals.specs.Stop.{Stop, never, stop, stop_if, stop_of, checked_of, or_else}
 use Rattle.refusals.specs.declared.Refusal.{Refusal}
-use Rattle.refusals.specs.declared.Checked.{Checked}
-use Rattle.refusals.specs.declared.Checked.TheVariants.{Sound, Refused}
+use Rattle.std.specs.Prelude.{Result, Ok, Err, ⊤}
+use Rattle.std.specs.Result.{IsErrAnd}
+use Rattle.std.proofs.lemmas.Result.{err_from_is_err_and}
 
 -- a check that refuses has the stop of its refusal
-pub told_refused : (c : Checked) (r : Refusal) (s : Stop) → c ≡ Refused r → checked_of c ≡ s → s ≡ stop_of r
+pub told_refused : (c : Result ⊤ Refusal) (r : Refusal) (s : Stop) → c ≡ Err r → checked_of c ≡ s → s ≡ stop_of r
 told_refused c r s e f = sym f ∙ ap checked_of e
 
 -- a check that finds all sound has no stop
-pub told_sound : (c : Checked) (s : Stop) → c ≡ Sound → checked_of c ≡ s → s ≡ never
+pub told_sound : (c : Result ⊤ Refusal) (s : Stop) → c ≡ Ok tt → checked_of c ≡ s → s ≡ never
 told_sound c s e f = sym f ∙ ap checked_of e
 
-module _ (a : Checked) (s later : Stop) where
+module _ (a : Result ⊤ Refusal) (s later : Stop) where
   -- a refusal is handed on
-  pub refused_first : (r : Refusal) → a ≡ Refused r → checked_of a ≡ s → checked_of a ≡ or_else s later
+  pub refused_first : (r : Refusal) → a ≡ Err r → checked_of a ≡ s → checked_of a ≡ or_else s later
   refused_first r e f = ap checked_of e ∙ ap (λ x. or_else x later) (sym (told_refused a r s e f))
 
   -- a sound answer leaves the later checks
-  pub sound_first : a ≡ Sound → checked_of a ≡ s → or_else s later ≡ later
+  pub sound_first : a ≡ Ok tt → checked_of a ≡ s → or_else s later ≡ later
   sound_first e f = ap (λ x. or_else x later) (told_sound a s e f)
+
+-- what a `?` hands on: the refusal itself
+pub at_err : {A : Type 0} {r : Result A Refusal} {e : Refusal} → IsErrAnd r (λ y. y ≡ e) → r ≡ Err e
+at_err {A} {r} h = let p = err_from_is_err_and r h in p.1 ∙ ap Err p.2
+
+-- a refusal handed on by `?` comes before the later checks
+pub handed_on : (r : Result ⊤ Refusal) (e : Refusal) (s later : Stop) → IsErrAnd r (λ y. y ≡ e) → stop_of e ≡ s → checked_of r ≡ or_else s later
+handed_on r e s later h k = ap checked_of (at_err h) ∙ ap (λ x. or_else x later) k
+
+-- a sound answer leaves the later checks
+pub passed_by : (s later : Stop) → never ≡ s → or_else s later ≡ later
+passed_by s later k = ap (λ x. or_else x later) (sym k)
 
 -- nothing stops where neither check does
 pub never_both : (s later : Stop) → or_else s later ≡ never → (s ≡ never) × (later ≡ never)

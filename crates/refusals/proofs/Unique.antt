@@ -24,8 +24,7 @@ use Rattle.refusals.specs.declared.Refusal.TheVariants.{
   KeyTwice,
   NotPrintable,
 }
-use Rattle.refusals.specs.declared.Checked.{Checked}
-use Rattle.refusals.specs.declared.Checked.TheVariants.{Sound, Refused}
+use Rattle.std.specs.Prelude.{Result, Ok, Err, ⊤}
 
 -- the refusal of a number and a place
 refusal : ℕ → ℕ → Refusal
@@ -74,8 +73,8 @@ unfolding refusal_of
 one_refusal a b e = sym (back a) ∙ ap refusal_of e ∙ back b
 
 -- two answers of a check that tell the same are the same
-pub one_answer : (a b : Checked) → checked_of a ≡ checked_of b → a ≡ b
-one_answer Sound Sound e = refl
-one_answer Sound (Refused s) e = absurd (let z : ◌≡◌ {A = ℕ} 0 1 = cc in omega arith)
-one_answer (Refused r) Sound e = absurd (let z : ◌≡◌ {A = ℕ} 0 1 = cc in omega arith)
-one_answer (Refused r) (Refused s) e = ap Refused (one_refusal r s e)
+pub one_answer : (a b : Result ⊤ Refusal) → checked_of a ≡ checked_of b → a ≡ b
+one_answer (Ok u) (Ok v) e = refl
+one_answer (Ok u) (Err s) e = absurd (let z : ◌≡◌ {A = ℕ} 0 1 = cc in omega arith)
+one_answer (Err r) (Ok v) e = absurd (let z : ◌≡◌ {A = ℕ} 0 1 = cc in omega arith)
+one_answer (Err r) (Err s) e = ap Err (one_refusal r s e)

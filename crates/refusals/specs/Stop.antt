@@ -1,9 +1,7 @@
 -- Where a call stops, and which of several checks stops it first ("Order"). Assumes nothing: these are definitions.
-use Rattle.std.specs.Prelude.{ℕ, ◌+◌, Bool, true, false, List, [], ◌∷◌}
+use Rattle.std.specs.Prelude.{ℕ, ◌+◌, Bool, true, false, List, [], ◌∷◌, Result, Ok, Err, ⊤}
 use Rattle.refusals.specs.Told.{told}
 use Rattle.refusals.specs.declared.Refusal.{Refusal}
-use Rattle.refusals.specs.declared.Checked.{Checked}
-use Rattle.refusals.specs.declared.Checked.TheVariants.{Sound, Refused}
 
 -- nowhere, or with a refusal's number at a place
 pub data Stop : Type 0 where
@@ -15,9 +13,9 @@ abbrev pub stop_of : Refusal → Stop
 stop_of r = stop (told r).number (told r).place
 
 -- what a check's answer tells
-abbrev pub checked_of : Checked → Stop
-checked_of Sound = never
-checked_of (Refused r) = stop_of r
+abbrev pub checked_of : Result ⊤ Refusal → Stop
+checked_of (Ok u) = never
+checked_of (Err r) = stop_of r
 
 -- a stop where a test holds
 abbrev pub stop_if : Bool → ℕ → ℕ → Stop

@@ -40,13 +40,6 @@ pub enum Refusal {
     NotPrintable(usize),
 }
 
-// What a check finds: nothing wrong, or the refusal.
-#[derive(Clone, Copy)]
-pub enum Checked {
-    Sound,
-    Refused(Refusal),
-}
-
 impl Refusal {
     // Document 01's number.
     pub fn number(self) -> u64

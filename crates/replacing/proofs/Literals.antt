@@ -20,12 +20,12 @@ use Rattle.conditions.specs.Table.{leaf_of}
 use Rattle.forms.specs.Held.{LeafHeld}
 use Rattle.replacing.specs.Walk.{Literal}
 use Rattle.replacing.specs.Fold.{appended}
-use Rattle.replacing.proofs.Results.{Result, result_unary, result_binary}
+use Rattle.replacing.proofs.Results.{Reached, result_unary, result_binary}
 
 -- ---- what operators give is such a value
 
 -- a result that a cell can hold and that is no Binary
-of_result_lem : (most : ℕ) (v : Value) → Result (value v) → Holds most (value v) → Literal most v
+of_result_lem : (most : ℕ) (v : Value) → Reached (value v) → Holds most (value v) → Literal most v
 of_result_lem most null r h = tt
 of_result_lem most (int z) r h = h.held
 of_result_lem most (str b) r h = h.held
@@ -34,12 +34,12 @@ of_result_lem most binary r h = r.usual
 module _ (R : Rules) (op : ℕ) where
   -- a unary operator gives no text but the empty one
   pub literal_one : (s : List ℕ) (w : ℕ) (v : Value) → unary_of R op (value_of s w) ≡ value v → Literal 0 v
-  literal_one s w v e = of_result_lem 0 v (subst Result e (result_unary R op (value_of s w))) (subst (Holds 0) e (holds_unary 0 R op (value_of s w)))
+  literal_one s w v e = of_result_lem 0 v (subst Reached e (result_unary R op (value_of s w))) (subst (Holds 0) e (holds_unary 0 R op (value_of s w)))
 
   -- a two-sided one a text within the limit
   pub literal_two : (s : List ℕ) (w u : ℕ) (v : Value) → binary_of R op (value_of s w) (value_of s u) ≡ value v → Literal R.limit v
   literal_two s w u v e =
-      of_result_lem R.limit v (subst Result e (result_binary R op (value_of s w) (value_of s u)))
+      of_result_lem R.limit v (subst Reached e (result_binary R op (value_of s w) (value_of s u)))
       (subst (Holds R.limit) e (holds_binary R op (value_of s w) (value_of s u) (value_int32 s w) (value_int32 s u)))
 
 -- ---- its word at a place in the stored text

@@ -7,7 +7,7 @@ use native.Mathlib.Omega.{arith}
 use lib.ListN.{length, take, set, length-append}
 use lib.Seq.{take-take, take_at, take-suc-set}
 use lib.Dec.{ltb}
-use borrow.Author.Tests.{ne_eqb, le-ltb, lt-ltb, ltb-true, ltb-false}
+use borrow.Author.Tests.{ne_eqb, le-ltb, lt-ltb}
 use Rattle.slices.specs.Splice.{Wrote}
 use Rattle.slices.specs.Bytes.{both}
 use Rattle.slices.proofs.Splice.{wrote_front, front_splice, take_splice}
@@ -15,7 +15,6 @@ use Rattle.slices.proofs.Both.{both_true}
 use Rattle.cells.specs.Cell.{WellFormed, kind_of, word_of}
 use Rattle.values.specs.Value.{Value, null, int, str, value_of}
 use Rattle.integers.specs.Outcome.{Outcome, value, Reply, gave, reply_of, cell_at, rise, placed}
-use Rattle.integers.specs.declared.Answer.{Answer}
 use Rattle.operators.specs.Operator.{unary_of, binary_of, Applied, text_after}
 use Rattle.operators.specs.declared.Rules.{Rules}
 use Rattle.conditions.specs.Ast.{Tree, leaf, unary, binary}
@@ -23,9 +22,11 @@ use Rattle.forms.specs.Held.{LeafHeld}
 use Rattle.postfix.specs.Postfix.{leaf_bytes, bytes_of, width}
 use Rattle.replacing.specs.Fold.{Folding, folded, is_literal, leaf_word_of, appended, replaced, fold_one, fold_two}
 use Rattle.replacing.specs.Walk.{AllHeld, root, Rooted, Literal, Stored, Stands, StandTwo, Says, Becomes, Gives}
-use Rattle.replacing.specs.declared.Part.{Part}
-use Rattle.replacing.specs.declared.Part.TheVariants.{Folded}
 use Rattle.replacing.proofs.Literals.{literal_one, literal_two, literal_kind, literal_well, held_literal}
+use Rattle.std.specs.Prelude.{Result, Ok}
+use Rattle.replacing.specs.declared.Folded.{Folded}
+use Rattle.integers.specs.declared.Fault.{Fault}
+use Rattle.refusals.specs.declared.Refusal.{Refusal}
 
 -- ---- words of trees
 
@@ -75,7 +76,7 @@ rise_appended Value.binary = refl
 
 module _ (s text front : List ℕ) (place start : ℕ) (before after : List ℕ) (st : start ≡ length front) (fr : front ≡ take start before) where
   pub replaced_value : (o : Outcome) (w u end : ℕ) → gave w u ≡ placed (length s) o → Becomes text s o → Wrote before start (leaf_bytes w) end after
-      → Says front (place + 1) text after (Folded w end u (place + 1)) (replaced place s o)
+      → Says front (place + 1) text after (Ok (record { word = w; end = end; top = u; next = place + 1 })) (replaced place s o)
   unfolding placed bytes_of AllHeld
   replaced_value (value v) w u end e b wr =
       let p : w ≡ word_of (cell_at (length s) v) = cc in
@@ -134,7 +135,7 @@ one_becomes R op s text w top T small = record {
     none Value.binary h = absurd h
 
 -- what `replace` says
-abbrev pub Replaces : Answer → ℕ → List ℕ → List ℕ → ℕ → Part → Type 0
+abbrev pub Replaces : Result (ℕ × ℕ) Fault → ℕ → List ℕ → List ℕ → ℕ → Result Folded Refusal → Type 0
 Replaces answer place before after start r =
     (o : Outcome) (s text front : List ℕ) → reply_of answer ≡ placed (length s) o → Becomes text s o → start ≡ length front → front ≡ take start before
     → Says front (place + 1) text after r (replaced place s o)
@@ -143,9 +144,9 @@ module _ (R : Rules) (op place start word end top : ℕ) (x : Tree ℕ) (s text 
   literal_is : (b : Bool) → ltb (kind_of word) 3 ≡ b → is_literal x ≡ b
   literal_is b e = literal_root x S.rooted ∙ ap (λ w. ltb (kind_of w) 3) (sym S.last) ∙ e
 
-  pub one_literal : kind_of word < 3 → length s ≤ 65536 → (answer : Answer)
+  pub one_literal : kind_of word < 3 → length s ≤ 65536 → (answer : Result (ℕ × ℕ) Fault)
       → ((stored : List ℕ) → WellFormed (length stored) word → reply_of answer ≡ placed top (unary_of R op (value_of stored word)))
-      → (r : Part) (after : List ℕ) → Replaces answer place out after start r → start ≡ length front → Says front (place + 1) text after r (fold_one R place op x s)
+      → (r : Result Folded Refusal) (after : List ℕ) → Replaces answer place out after start r → start ≡ length front → Says front (place + 1) text after r (fold_one R place op x s)
   one_literal k small answer f r after g st =
       let l : is_literal x ≡ true = literal_is true (lt-ltb _ _ k) in
       let w : leaf_word_of x ≡ word = literal_word x l ∙ sym S.last in
@@ -153,7 +154,7 @@ module _ (R : Rules) (op place start word end top : ℕ) (x : Tree ℕ) (s text 
       rw (l, w) (g (unary_of R op (value_of s word)) s text front (f s h ∙ ap (λ n. placed n (unary_of R op (value_of s word))) T.long) (one_becomes R op s text word top T small) st
       (subst (λ n. front ≡ take n out) (sym st) (front_kept front (bytes_of x) out end S.place S.bytes)))
 
-  pub one_kept : 3 ≤ kind_of word → 16 ≤ op → end < length out → Says front (place + 1) text (set out end op) (Folded (op * 2 ^ 56) (end + 1) top (place + 1)) (fold_one R place op x s)
+  pub one_kept : 3 ≤ kind_of word → 16 ≤ op → end < length out → Says front (place + 1) text (set out end op) (Ok (record { word = op * 2 ^ 56; end = end + 1; top = top; next = place + 1 })) (fold_one R place op x s)
   unfolding bytes_of AllHeld
   one_kept k known h =
       let l : is_literal x ≡ false = literal_is false (le-ltb _ _ k) in (
@@ -174,7 +175,7 @@ module _ (R : Rules) (op place start word end top : ℕ) (x : Tree ℕ) (s text 
 -- ---- a two-sided operator
 
 -- what a two-sided operator gives, its text standing at the old top
-two_becomes : (R : Rules) (op : ℕ) (s before after : List ℕ) (v w top : ℕ) (r : Answer) → R.limit ≤ 1024 → top ≤ length before → Stored before s top → length s ≤ 65536
+two_becomes : (R : Rules) (op : ℕ) (s before after : List ℕ) (v w top : ℕ) (r : Result (ℕ × ℕ) Fault) → R.limit ≤ 1024 → top ≤ length before → Stored before s top → length s ≤ 65536
     → Applied before after top r (binary_of R op (value_of s v) (value_of s w)) → Becomes after s (binary_of R op (value_of s v) (value_of s w))
 two_becomes R op s before after v w top r limit long T small A = record {
   fits = small;
@@ -198,7 +199,7 @@ two_becomes R op s before after v w top r limit long T small A = record {
     appends Value.binary h e = absurd h
 
 -- the text below the top is as it was
-pub applied_kept : (before after : List ℕ) (top : ℕ) (r : Answer) (o : Outcome) → top ≤ length before → Applied before after top r o → take top after ≡ take top before
+pub applied_kept : (before after : List ℕ) (top : ℕ) (r : Result (ℕ × ℕ) Fault) (o : Outcome) → top ≤ length before → Applied before after top r o → take top after ≡ take top before
 applied_kept before after top r o h A = ap (take top) A.text ∙ by o
   where
     by : (o : Outcome) → take top (text_after before top o) ≡ take top before
@@ -224,9 +225,9 @@ module _ (R : Rules) (op place start left right end top : ℕ) (x y : Tree ℕ) 
     words : (leaf_word_of x ≡ left) × (leaf_word_of y ≡ right)
     words = (literal_word x literals.0 ∙ sym S.left_last, literal_word y literals.1 ∙ sym S.right_last)
 
-    pub two_literal : R.limit ≤ 1024 → top ≤ length before → length s ≤ 65536 → (answer : Answer) (text : List ℕ)
+    pub two_literal : R.limit ≤ 1024 → top ≤ length before → length s ≤ 65536 → (answer : Result (ℕ × ℕ) Fault) (text : List ℕ)
         → Applied before text top answer (binary_of R op (value_of (take top before) left) (value_of (take top before) right))
-        → (r : Part) (after : List ℕ) → Replaces answer place out after start r → start ≡ length front
+        → (r : Result Folded Refusal) (after : List ℕ) → Replaces answer place out after start r → start ≡ length front
         → Gives front (place + 1) top before text after r (fold_two R place op x y s)
     two_literal limit long small answer text A r after g st =
         let B : Applied before text top answer (binary_of R op (value_of s left) (value_of s right)) = rw T.below at A in
@@ -238,7 +239,7 @@ module _ (R : Rules) (op place start left right end top : ℕ) (x y : Tree ℕ) 
               (subst (λ n. front ≡ take n out) (sym st) (front_kept front (bytes_of x ++ bytes_of y) out end (S.place ∙ ap (λ n. length front + n) (sym (length-append (bytes_of x) (bytes_of y)))) S.bytes)));
         }
 
-  pub two_kept : test ≡ false → 16 ≤ op → end < length out → Gives front (place + 1) top before before (set out end op) (Folded (op * 2 ^ 56) (end + 1) top (place + 1)) (fold_two R place op x y s)
+  pub two_kept : test ≡ false → 16 ≤ op → end < length out → Gives front (place + 1) top before before (set out end op) (Ok (record { word = op * 2 ^ 56; end = end + 1; top = top; next = place + 1 })) (fold_two R place op x y s)
   unfolding bytes_of AllHeld
   two_kept t known h = record {
     kept = refl;
@@ -258,18 +259,3 @@ module _ (R : Rules) (op place start left right end top : ℕ) (x y : Tree ℕ) 
       refl,
     );
   }
-
--- a word below 3 × 2^56 is of kind 0, 1 or 2
-pub below_three : (w : ℕ) → ltb w 216172782113783808 ≡ ltb (kind_of w) 3
-below_three w = by (ltb w 216172782113783808) refl
-  where
-    by : (x : Bool) → ltb w 216172782113783808 ≡ x → x ≡ ltb (kind_of w) 3
-    by true e = sym (lt-ltb (kind_of w) 3 (omega (arith, ltb-true w 216172782113783808 e)))
-    by false e = sym (le-ltb (kind_of w) 3 (omega (arith, ltb-false w 216172782113783808 e)))
-
--- where the test holds, the operator is neither AND nor OR and both words are of literals
-pub test_true : (op left right : ℕ) → both (ltb op 47) (both (ltb (kind_of left) 3) (ltb (kind_of right) 3)) ≡ true → (op < 47) × (kind_of left < 3) × (kind_of right < 3)
-test_true op left right e =
-    let p = both_true (ltb op 47) _ e in
-    let q = both_true (ltb (kind_of left) 3) _ p.1 in
-    (ltb-true op 47 p.0, ltb-true (kind_of left) 3 q.0, ltb-true (kind_of right) 3 q.1)

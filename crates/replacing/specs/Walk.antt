@@ -12,8 +12,9 @@ use Rattle.conditions.specs.Ast.{Tree, leaf, unary, binary, size, height, joins}
 use Rattle.forms.specs.Held.{LeafHeld, Denotes}
 use Rattle.postfix.specs.Postfix.{bytes_of, width}
 use Rattle.replacing.specs.Fold.{Folding, folded, appended}
-use Rattle.replacing.specs.declared.Part.{Part}
-use Rattle.replacing.specs.declared.Part.TheVariants.{Folded, Refused}
+use Rattle.std.specs.Prelude.{Result, Ok, Err}
+use Rattle.replacing.specs.declared.Folded.{Folded}
+use Rattle.refusals.specs.declared.Refusal.{Refusal}
 
 -- every leaf of the tree is held below the mark
 unfoldable pub AllHeld : ℕ → Tree ℕ → Type 0
@@ -58,10 +59,10 @@ pub record StandTwo (front : List ℕ) (x y : Tree ℕ) (s : List ℕ) (left rig
   pub bytes : take end out ≡ front ++ (bytes_of x ++ bytes_of y)
 
 -- what a part says of the definition's folding: its tree stands in the output, its text is stored, and the offset after it is told; or the refusal
-abbrev pub Says : List ℕ → ℕ → List ℕ → List ℕ → Part → Folding → Type 0
-Says front next text out (Folded word end top after) f =
-    (x : Tree ℕ) × (s : List ℕ) × (f ≡ folded x s) × Stands front x s word end out × Stored text s top × (after ≡ next)
-Says front next text out (Refused r) f = f ≡ Folding.refused (told r).number (told r).place
+abbrev pub Says : List ℕ → ℕ → List ℕ → List ℕ → Result Folded Refusal → Folding → Type 0
+Says front next text out (Ok part) f =
+    (x : Tree ℕ) × (s : List ℕ) × (f ≡ folded x s) × Stands front x s part.word part.end out × Stored text s part.top × (part.next ≡ next)
+Says front next text out (Err r) f = f ≡ Folding.refused (told r).number (told r).place
 
 -- a value that a literal can stand for: an Int of 32 bits, a text no longer than so much, no Binary
 abbrev pub Literal : ℕ → Value → Type 0
@@ -99,6 +100,6 @@ pub record FoldAsks (R : Rules) (used top depth k at end : ℕ) (nodes text out 
   pub early : at + 7 * size t ≤ 448
 
 -- what the walk gives: the text below the old top as it was, and the tree folded
-pub record Gives (front : List ℕ) (next top : ℕ) (before after out : List ℕ) (r : Part) (f : Folding) : Type 0 where
+pub record Gives (front : List ℕ) (next top : ℕ) (before after out : List ℕ) (r : Result Folded Refusal) (f : Folding) : Type 0 where
   pub kept : take top after ≡ take top before
   pub says : Says front next after out r f

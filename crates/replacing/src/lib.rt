@@ -9,31 +9,41 @@ ghost use Rattle.conditions.specs.Ast.{Tree};
 ghost use Rattle.replacing.specs.Fold.{fold_one, fold_two, replaced};
 ghost use Rattle.replacing.specs.Walk.{Says, Stands, StandTwo, Stored, Becomes, TwoAsks, Gives};
 
-use integers::Answer;
+use integers::Fault;
 use operators::Rules;
 use refusals::Refusal;
 
-// A part of the condition folded: its last node's word, the place after its bytes, the new top, and the offset after the part itself; or a refusal.
+// A part of the condition folded: its last node's word, the place after its bytes, the new top, and the offset after the part itself.
 #[derive(Clone, Copy)]
-pub enum Part {
-    Folded(u64, usize, usize, usize),
-    Refused(Refusal),
+pub struct Folded {
+    pub word: u64,
+    pub end: usize,
+    pub top: usize,
+    pub next: usize,
 }
 
 // An operator at an offset gives way to its value, written where its operands began.
-pub fn replace(answer: Answer, place: usize, out: &mut [u8], start: usize) -> Part
+pub fn replace(
+    answer: Result<(u64, usize), Fault>,
+    place: usize,
+    out: &mut [u8],
+    start: usize,
+) -> Result<Folded, Refusal>
     requires { (start + 7 ≤ length out.old) × (place < 448) }
     ensures { (o : Outcome) (s text front : List ℕ) → reply_of answer ≡ placed (length s) o → Becomes text s o → start ≡ length front →
         front ≡ take start out.old → Says front (place + 1) text out.new result (replaced place s o) }
 {
     match answer {
-        Answer::Gave(word, top) => {
+        Ok((word, top)) => {
             let end = postfix::write_leaf(word, out, start);
-            Part::Folded(word, end, top, place + 1)
+            Ok(Folded {
+                word,
+                end,
+                top,
+                next: place + 1,
+            })
         }
-        Answer::Overflow => Part::Refused(Refusal::Overflow(place)),
-        Answer::ShiftAmount => Part::Refused(Refusal::ShiftAmount(place)),
-        Answer::TooLong => Part::Refused(Refusal::TooLong(place)),
+        Err(fault) => Err(fault.at(place)),
     }
 }
 
@@ -47,7 +57,7 @@ pub fn fold_one(
     out: &mut [u8],
     start: usize,
     end: usize,
-) -> Part
+) -> Result<Folded, Refusal>
     requires { ((16 ≤ op) × (op < 19)) × (start + 7 ≤ length out.old) × (end < length out.old) × (place < 448) }
     ensures { (x : Tree ℕ) (s text front : List ℕ) → Stands front x s word end out.old → Stored text s top → length s ≤ 65536 →
         start ≡ length front → Says front (place + 1) text out.new result (fold_one rules place op x s) }
@@ -56,7 +66,12 @@ pub fn fold_one(
         return replace(operators::unary(rules, op, word, top), place, out, start);
     }
     out[end] = op as u8;
-    Part::Folded(op * 0x100_0000_0000_0000, end + 1, top, place + 1)
+    Ok(Folded {
+        word: op * 0x100_0000_0000_0000,
+        end: end + 1,
+        top,
+        next: place + 1,
+    })
 }
 
 // Whether a two-sided operator gives way to its value: never AND (48) or OR (49), and only over two literals.
@@ -84,7 +99,7 @@ pub fn fold_two(
     out: &mut [u8],
     start: usize,
     end: usize,
-) -> Part
+) -> Result<Folded, Refusal>
     requires { TwoAsks rules op left right top place start end (length text.old) (length out.old) }
     ensures { (x y : Tree ℕ) (s front : List ℕ) → StandTwo front x y s left right end out.old → Stored text.old s top → start ≡ length front →
         Gives front (place + 1) top text.old text.new out.new result (fold_two rules place op x y s) }
@@ -94,5 +109,10 @@ pub fn fold_two(
         return replace(answer, place, out, start);
     }
     out[end] = op as u8;
-    Part::Folded(op * 0x100_0000_0000_0000, end + 1, top, place + 1)
+    Ok(Folded {
+        word: op * 0x100_0000_0000_0000,
+        end: end + 1,
+        top,
+        next: place + 1,
+    })
 }

@@ -1,23 +1,21 @@
 -- Comparing an output with its result and the rubbish behind it, and a text with what is stored at its start. Assumes nothing.
 use mathlib.Core.Path.{◌≡◌, refl, sym, ap, ◌∙◌}
-use mathlib.Core.Bool.{Bool, true, false}
+use mathlib.Core.Bool.{Bool, true, false, ◌&&◌}
 use mathlib.Core.List.{List, [], ◌∷◌, ◌++◌}
 use Prim.Native.Nat.{ℕ, suc, ◌+◌, ◌-◌, ◌≤◌, ◌<◌, min}
 use native.Mathlib.Omega.{arith}
 use native.Mathlib.Numerals.{add-one}
 use lib.ListN.{length, take, drop, get_or, length-append, drop_of_length-le, take-append-drop, length-take}
-use lib.Dec.{ltb}
+use lib.Dec.{ltb, eqb}
 use lib.Seq.{drop-cons, take-append_seam, take-take, take_all, take-length, take-add}
 use borrow.Author.Tests.{eq-eqb, ne_eqb, ltb-true, ltb-false}
+use Rattle.std.specs.Prelude.{nat_eq}
+use Rattle.std.specs.Cmp.Lexicographic.{pointwise}
 use Rattle.refusals.proofs.Bools.{true_false}
-use Rattle.slices.specs.Bytes.{same_bytes}
+use Rattle.slices.specs.Bytes.{both, same_bytes}
 use Rattle.slices.specs.Splice.{piece}
 use Rattle.slices.proofs.Bytes.{same_self, same_eq, differ}
 use Rattle.replay.specs.Compare.{rubbish_from, output_after}
-
--- a part from its start to its end
-pub part_is : (s n : ℕ) (l : List ℕ) → piece s (s + n - s) l ≡ piece s n l
-part_is s n l = let e : s + n - s ≡ n = omega arith in ap (λ k. piece s k l) e
 
 -- what two lists have at their start doesn't tell them apart
 same_front : (l a b : List ℕ) → same_bytes (l ++ a) (l ++ b) ≡ same_bytes a b
@@ -25,23 +23,17 @@ unfolding same_bytes
 same_front [] a b = refl
 same_front (x ∷ l) a b = rw (eq-eqb x x refl) (same_front l a b)
 
--- ---- a list from an index on
-
-module _ (a b : List ℕ) (i : ℕ) (h : i < length a) (k : i < length b) where
-  -- two elements that differ
-  pub words_differ : (get_or a i 0 ≡ get_or b i 0 → ⊥) → same_bytes (drop i a) (drop i b) ≡ false
-  unfolding same_bytes
-  words_differ n = rw (drop-cons a i 0 h, drop-cons b i 0 k, ne_eqb (get_or a i 0) (get_or b i 0) n)
-
-  -- two that are the same, then the rest
-  pub words_agree : get_or a i 0 ≡ get_or b i 0 → same_bytes (drop i a) (drop i b) ≡ same_bytes (drop (i + 1) a) (drop (i + 1) b)
-  unfolding same_bytes
-  words_agree e = rw (drop-cons a i 0 h, drop-cons b i 0 k, eq-eqb (get_or a i 0) (get_or b i 0) e, add-one i)
-
--- nothing is left
-pub words_end : (a b : List ℕ) (i : ℕ) → length a ≤ i → length b ≤ i → same_bytes (drop i a) (drop i b) ≡ true
+-- std's `==` of words tells whether they are the same
+pub eq_same : (a b : List ℕ) → pointwise nat_eq a b ≡ same_bytes a b
 unfolding same_bytes
-words_end a b i h k = rw (drop_of_length-le a h, drop_of_length-le b k)
+eq_same [] [] = refl
+eq_same [] (y ∷ b) = refl
+eq_same (x ∷ a) [] = refl
+eq_same (x ∷ a) (y ∷ b) = rw (eq_same a b) (go (eqb x y))
+  where
+    go : (f : Bool) → (f && same_bytes a b) ≡ both f (same_bytes a b)
+    go true = refl
+    go false = refl
 
 -- ---- rubbish behind a result
 

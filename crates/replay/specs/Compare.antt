@@ -4,18 +4,18 @@ use Rattle.refusals.specs.Told.{told}
 use Rattle.slices.specs.Bytes.{both, same_bytes}
 use Rattle.slices.specs.Splice.{piece}
 use Rattle.cells.specs.Cell.{kind_of, start_of, length_of}
-use Rattle.writing.specs.declared.Written.{Written}
-use Rattle.writing.specs.declared.Written.TheVariants.{Count, Refused}
 use Rattle.replay.specs.declared.Expected.{Expected}
+use Rattle.std.specs.Prelude.{Result, Ok, Err}
+use Rattle.refusals.specs.declared.Refusal.{Refusal}
 
 -- an answer's four numbers are those expected
 abbrev pub is_answer : Expected → ℕ → ℕ → ℕ → ℕ → Bool
 is_answer e number place value used = both (eqb number e.number) (both (eqb place e.place) (both (eqb value e.value) (eqb used e.used)))
 
 -- an answer of a call that writes is the one expected, its mark as lent
-abbrev pub is_written : Expected → Written → ℕ → Bool
-is_written e (Count n) used = is_answer e 0 0 n used
-is_written e (Refused r) used = is_answer e (told r).number (told r).place 0 used
+abbrev pub is_written : Expected → Result ℕ Refusal → ℕ → Bool
+is_written e (Ok n) used = is_answer e 0 0 n used
+is_written e (Err r) used = is_answer e (told r).number (told r).place 0 used
 
 -- the word of rubbish at a place
 abbrev pub rubbish_word : ℕ → ℕ → ℕ

@@ -1,13 +1,13 @@
 // Reading recorded cases (docs/CASES.md). A part that is missing reads as 0 or empty, so that a damaged case differs and does no harm.
 #![tactic(auto)]
 
-ghost use Rattle.std.specs.Prelude.{◌≡◌, ◌+◌, ◌*◌, ◌≤◌, ◌<◌, min, ◌++◌, length, get_or, take};
+ghost use Rattle.std.specs.Prelude.{◌≡◌, ◌+◌, ◌*◌, ◌≤◌, ◌<◌, ◌++◌, length, get_or, take};
 ghost use Rattle.slices.specs.Bytes.{same_bytes};
 ghost use Rattle.slices.specs.Splice.{piece};
 ghost use Rattle.replay.specs.Number.{Four, Read, eight_at};
 ghost use Rattle.replay.specs.Compare.{is_answer, is_written, rubbish_byte, rubbish_word, output_after, holds_text, is_word};
 
-use writing::Written;
+use refusals::Refusal;
 
 // Standard input and output, as the system numbers them.
 const STDIN: i32 = 0;
@@ -149,24 +149,16 @@ pub fn words(case: &[u8], at: usize, words: &mut [u64]) -> Field
     ensures { (result.count ≤ length words.new) × (result.next ≤ length case.now) × (length words.new ≡ length words.old) }
 {
     let said = four(case, at) as usize;
-    let mut place = after(case, at, 4);
-    let start = place;
-    let mut i: usize = 0;
-    while i < said {
-        if words.len() <= i {
-            return Field {
-                start,
-                count: words.len(),
-                next: place,
-            };
-        }
-        words[i] = eight(case, place);
+    let start = after(case, at, 4);
+    let count = said.min(words.len());
+    let mut place = start;
+    for word in words[..count].iter_mut() {
+        *word = eight(case, place);
         place = after(case, place, 8);
-        i += 1;
     }
     Field {
         start,
-        count: i,
+        count,
         next: place,
     }
 }
@@ -219,12 +211,12 @@ pub fn is_answer(e: Expected, number: u64, place: usize, value: usize, used: usi
 }
 
 // Whether an answer is the one expected, with the mark where it was.
-pub fn is_written(e: Expected, answer: Written, used: usize) -> bool
+pub fn is_written(e: Expected, answer: Result<usize, Refusal>, used: usize) -> bool
     ensures { result ≡ is_written e answer used }
 {
     match answer {
-        Written::Count(n) => is_answer(e, 0, 0, n, used),
-        Written::Refused(r) => is_answer(e, r.number(), r.place(), 0, used),
+        Ok(n) => is_answer(e, 0, 0, n, used),
+        Err(r) => is_answer(e, r.number(), r.place(), 0, used),
     }
 }
 
@@ -240,30 +232,27 @@ pub fn lend(text: &mut [u8], stored: &[u8], rubbish: u64)
     requires { length stored.now ≤ length text.old }
     ensures { length text.new ≡ length text.old }
 {
-    let mut i: usize = 0;
-    while i < text.len() {
-        text[i] = rubbish_at(i, rubbish);
-        i += 1;
+    for (i, byte) in text.iter_mut().enumerate() {
+        *byte = rubbish_at(i, rubbish);
     }
-    slices::copy_bytes(stored, text, 0);
+    slices::copy(stored, text, 0);
 }
 
 // Whether an output holds the result at its start, and the rubbish that was lent after it.
 pub fn output_is(out: &[u8], res: &[u8], rubbish: u64) -> bool
     ensures { result ≡ same_bytes out.now (output_after (rubbish_byte rubbish) res.now (length out.now)) }
 {
-    let mut i = res.len();
-    if out.len() < i {
+    let end = res.len();
+    if out.len() < end {
         return false;
     }
-    if !slices::equal_bytes(&out[..i], res) {
+    if !slices::equal_bytes(&out[..end], res) {
         return false;
     }
-    while i < out.len() {
+    for i in end..out.len() {
         if out[i] != rubbish_at(i, rubbish) {
             return false;
         }
-        i += 1;
     }
     true
 }
@@ -272,17 +261,7 @@ pub fn output_is(out: &[u8], res: &[u8], rubbish: u64) -> bool
 pub fn same_words(a: &[u64], b: &[u64]) -> bool
     ensures { result ≡ same_bytes a.now b.now }
 {
-    if a.len() != b.len() {
-        return false;
-    }
-    let mut i: usize = 0;
-    while i < a.len() {
-        if a[i] != b[i] {
-            return false;
-        }
-        i += 1;
-    }
-    true
+    a == b
 }
 
 // The word of rubbish at a place.
@@ -296,10 +275,8 @@ fn word_at(at: usize, rubbish: u64) -> u64
 pub fn lend_words(out: &mut [u64], rubbish: u64)
     ensures { length out.new ≡ length out.old }
 {
-    let mut i: usize = 0;
-    while i < out.len() {
-        out[i] = word_at(i, rubbish);
-        i += 1;
+    for (i, word) in out.iter_mut().enumerate() {
+        *word = word_at(i, rubbish);
     }
 }
 
@@ -307,18 +284,17 @@ pub fn lend_words(out: &mut [u64], rubbish: u64)
 pub fn words_are(out: &[u64], res: &[u64], rubbish: u64) -> bool
     ensures { result ≡ same_bytes out.now (output_after (rubbish_word rubbish) res.now (length out.now)) }
 {
-    let mut i = res.len();
-    if out.len() < i {
+    let end = res.len();
+    if out.len() < end {
         return false;
     }
-    if !same_words(&out[..i], res) {
+    if !same_words(&out[..end], res) {
         return false;
     }
-    while i < out.len() {
+    for i in end..out.len() {
         if out[i] != word_at(i, rubbish) {
             return false;
         }
-        i += 1;
     }
     true
 }
@@ -350,19 +326,12 @@ pub fn keeps(text: &[u8], stored: &[u8]) -> bool
     slices::equal_bytes(&text[..end], stored)
 }
 
-// The smaller of two numbers.
-fn least(a: usize, b: usize) -> usize
-    ensures { result ≡ min a b }
-{
-    if a < b { a } else { b }
-}
-
 // Whether a text holds the stored bytes at its start, and the new ones from there to the mark or its end.
 pub fn text_is(text: &[u8], stored: &[u8], new: &[u8], mark: usize) -> bool
     ensures { result ≡ same_bytes (take mark text.now) (stored.now ++ new.now) }
 {
     let start = stored.len();
-    let end = least(mark, text.len());
+    let end = mark.min(text.len());
     if end < start {
         return false;
     }
@@ -443,4 +412,24 @@ pub fn verdict(case: u64, agrees: bool) -> u64
     }
     tell(case);
     1
+}
+
+// Reads the cases from standard input one after another; asks of each, under one rubbish and another above the mark and in the output, whether its call
+// gives what is expected; and reports how many there are and how many differ.
+pub fn each_case<F: FnMut(&[u8], u64) -> bool>(mut replays: F)
+    requires { (state : F) (case rubbish : _) → F.pre state case rubbish }
+{
+    let mut space = [0u8; 262144];
+    let mut differ: u64 = 0;
+    for number in 0..1000000 {
+        let size = next_case(&mut space);
+        if size == 0 {
+            return report(number, differ);
+        }
+        let case = &space[..size];
+        let one = replays(case, number % 1000);
+        let two = replays(case, 77 + number % 1000);
+        differ += verdict(number, one && two);
+    }
+    report(1000000, differ);
 }

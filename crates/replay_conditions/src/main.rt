@@ -1,19 +1,25 @@
 // Replays the recorded cases of evaluation (docs/CASES.md, call 18) from standard input.
 #![tactic(auto)]
 
-ghost use Rattle.std.specs.Prelude.{◌≡◌, ◌≤◌, length};
+ghost use Rattle.std.specs.Prelude.{◌≡◌, length};
 
-use evaluation::Evaluated;
+use refusals::Refusal;
 use replay::Expected;
 
 // Whether an answer is the one expected, and the stored text as it was.
-fn agrees(answer: Evaluated, e: Expected, text: &[u8], stored: &[u8], content: &[u8]) -> bool {
+fn agrees(
+    answer: Result<u64, Refusal>,
+    e: Expected,
+    text: &[u8],
+    stored: &[u8],
+    content: &[u8],
+) -> bool {
     if !replay::keeps(text, stored) {
         return false;
     }
     match answer {
-        Evaluated::Cell(word) => replay::is_word(e, word, text, stored.len(), content),
-        Evaluated::Refused(r) => r.number() == e.number && r.place() as u64 == e.place,
+        Ok(word) => replay::is_word(e, word, text, stored.len(), content),
+        Err(r) => r.number() == e.number && r.place() as u64 == e.place,
     }
 }
 
@@ -71,29 +77,7 @@ fn replays(case: &[u8], text: &mut [u8], rubbish: u64) -> bool
     )
 }
 
-// 1 where the case of this number differs under either rubbish, which is told, else 0.
-fn difference(case: &[u8], text: &mut [u8], number: u64) -> u64
-    ensures { (result ≤ 1) × (length text.new ≡ length text.old) }
-{
-    let one = replays(case, text, number % 1000);
-    let two = replays(case, text, 77 + number % 1000);
-    replay::verdict(number, one && two)
-}
-
 fn main() {
-    let mut space = [0u8; 262144];
-    let buffer: &mut [u8] = &mut space;
-    let mut room = [0u8; 65537];
-    let text: &mut [u8] = &mut room;
-    let mut cases: u64 = 0;
-    let mut differ: u64 = 0;
-    while cases < 1000000 {
-        let size = replay::next_case(buffer);
-        if size == 0 {
-            break;
-        }
-        differ += difference(&buffer[..size], text, cases);
-        cases += 1;
-    }
-    replay::report(cases, differ);
+    let mut text = [0u8; 65537];
+    replay::each_case(|case, rubbish| replays(case, &mut text, rubbish));
 }

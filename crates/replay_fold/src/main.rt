@@ -1,16 +1,14 @@
 // Replays the recorded cases of `fold` (docs/CASES.md, call 19) from standard input.
 #![tactic(auto)]
 
-ghost use Rattle.std.specs.Prelude.{◌≤◌};
-
-use folding::Shortened;
+use refusals::Refusal;
 use replay::Expected;
 
 // Whether an answer is the one expected; a refusal leaves the mark where it was.
-fn agrees(answer: Shortened, e: Expected, used: usize) -> bool {
+fn agrees(answer: Result<(usize, usize), Refusal>, e: Expected, used: usize) -> bool {
     match answer {
-        Shortened::Bytes(n, mark) => replay::is_answer(e, 0, 0, n, mark),
-        Shortened::Refused(r) => replay::is_answer(e, r.number(), r.place(), 0, used),
+        Ok((n, mark)) => replay::is_answer(e, 0, 0, n, mark),
+        Err(r) => replay::is_answer(e, r.number(), r.place(), 0, used),
     }
 }
 
@@ -68,31 +66,8 @@ fn replays(case: &[u8], text: &mut [u8], out: &mut [u8], rubbish: u64) -> bool {
     )
 }
 
-// 1 where the case of this number differs under either rubbish, which is told, else 0.
-fn difference(case: &[u8], text: &mut [u8], out: &mut [u8], number: u64) -> u64
-    ensures { result ≤ 1 }
-{
-    let one = replays(case, text, out, number % 1000);
-    let two = replays(case, text, out, 77 + number % 1000);
-    replay::verdict(number, one && two)
-}
-
 fn main() {
-    let mut space = [0u8; 262144];
-    let buffer: &mut [u8] = &mut space;
-    let mut room = [0u8; 65537];
-    let text: &mut [u8] = &mut room;
-    let mut place = [0u8; 1100];
-    let out: &mut [u8] = &mut place;
-    let mut cases: u64 = 0;
-    let mut differ: u64 = 0;
-    while cases < 1000000 {
-        let size = replay::next_case(buffer);
-        if size == 0 {
-            break;
-        }
-        differ += difference(&buffer[0..size], text, out, cases);
-        cases += 1;
-    }
-    replay::report(cases, differ);
+    let mut text = [0u8; 65537];
+    let mut out = [0u8; 1100];
+    replay::each_case(|case, rubbish| replays(case, &mut text, &mut out, rubbish));
 }

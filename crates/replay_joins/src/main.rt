@@ -3,10 +3,8 @@
 
 ghost use Rattle.std.specs.Prelude.{◌≡◌, ◌+◌, ◌≤◌, length};
 
-use naming::Joined;
 use refusals::Refusal;
 use replay::Text;
-use writing::Written;
 
 // A call: whether its join is a left one, whether a select follows, and where its parts start in the case. Only a select has names, a list and a
 // condition of its own.
@@ -27,7 +25,14 @@ struct Call {
 }
 
 // Whether an answer is the one expected at this place of the case, the text up to the mark as expected, and the output too.
-fn left_so(case: &[u8], lent: Text, answer: Joined, text: &[u8], out: &[u64], rubbish: u64) -> bool
+fn left_so(
+    case: &[u8],
+    lent: Text,
+    answer: Result<(usize, usize), Refusal>,
+    text: &[u8],
+    out: &[u64],
+    rubbish: u64,
+) -> bool
     requires { (lent.stored.start + lent.stored.count ≤ length case.now) × (lent.stored.next ≤ length case.now) }
 {
     let stored = replay::part(case, lent.stored);
@@ -39,10 +44,10 @@ fn left_so(case: &[u8], lent: Text, answer: Joined, text: &[u8], out: &[u64], ru
     }
     let used = lent.used;
     match answer {
-        Joined::Words(n, mark) => {
+        Ok((n, mark)) => {
             replay::is_answer(e, 0, 0, n, mark) && replay::text_is(text, stored, new, mark)
         }
-        Joined::Refused(r) => {
+        Err(r) => {
             replay::is_answer(e, r.number(), r.place(), 0, used)
                 && replay::text_is(text, stored, new, used)
         }
@@ -65,7 +70,13 @@ fn words_at(case: &[u8], at: usize, words: &mut [u64]) -> usize
 }
 
 // The columns of a left join, or else of an inner one.
-fn head(case: &[u8], call: Call, text: &mut [u8], used: usize, out: &mut [u64]) -> Joined {
+fn head(
+    case: &[u8],
+    call: Call,
+    text: &mut [u8],
+    used: usize,
+    out: &mut [u64],
+) -> Result<(usize, usize), Refusal> {
     let left_name = bytes_at(case, call.left_name);
     let right_name = bytes_at(case, call.right_name);
     let mut one = [0u64; 68];
@@ -81,7 +92,13 @@ fn head(case: &[u8], call: Call, text: &mut [u8], used: usize, out: &mut [u64]) 
 }
 
 // The rows of a left join, or else of an inner one.
-fn joined(case: &[u8], call: Call, text: &mut [u8], used: usize, out: &mut [u64]) -> Written {
+fn joined(
+    case: &[u8],
+    call: Call,
+    text: &mut [u8],
+    used: usize,
+    out: &mut [u64],
+) -> Result<usize, Refusal> {
     let on = bytes_at(case, call.on);
     let mut one = [0u64; 68];
     let a = words_at(case, call.left_columns, &mut one);
@@ -115,14 +132,6 @@ fn joined(case: &[u8], call: Call, text: &mut [u8], used: usize, out: &mut [u64]
     )
 }
 
-// What was written, with the mark.
-fn marked(answer: Written, mark: usize) -> Joined {
-    match answer {
-        Written::Count(n) => Joined::Words(n, mark),
-        Written::Refused(r) => Joined::Refused(r),
-    }
-}
-
 // Select over the first so many joined rows, whose columns are these.
 fn select_from(
     columns: &[u64],
@@ -133,22 +142,20 @@ fn select_from(
     text: &mut [u8],
     mark: usize,
     out: &mut [u64],
-) -> Joined {
+) -> Result<(usize, usize), Refusal> {
     let width = columns.len() / 2;
     if 64 < width {
-        return Joined::Refused(Refusal::OutputShort(0));
+        return Err(Refusal::OutputShort(0));
     }
     if 9000 < count {
-        return Joined::Refused(Refusal::OutputShort(0));
+        return Err(Refusal::OutputShort(0));
     }
     let end = count * width;
     if rows.len() < end {
-        return Joined::Refused(Refusal::OutputShort(0));
+        return Err(Refusal::OutputShort(0));
     }
-    marked(
-        selecting::select(columns, &rows[0..end], list, condition, text, mark, out),
-        mark,
-    )
+    let count = selecting::select(columns, &rows[0..end], list, condition, text, mark, out)?;
+    Ok((count, mark))
 }
 
 // Rows and select in turn, where the joined columns are these.
@@ -159,12 +166,9 @@ fn select_rows(
     text: &mut [u8],
     mark: usize,
     out: &mut [u64],
-) -> Joined {
+) -> Result<(usize, usize), Refusal> {
     let mut rows = [0u64; 9000];
-    let answer = joined(case, call, text, mark, &mut rows);
-    let Written::Count(count) = answer else {
-        return marked(answer, mark);
-    };
+    let count = joined(case, call, text, mark, &mut rows)?;
     let mut space = [0u64; 40];
     let named = words_at(case, call.list, &mut space);
     let list = &space[0..named];
@@ -173,24 +177,34 @@ fn select_rows(
 }
 
 // Columns, rows and select in turn, each on what the one before left; the first refusal ends it.
-fn select_joined(case: &[u8], call: Call, text: &mut [u8], used: usize, out: &mut [u64]) -> Joined {
+fn select_joined(
+    case: &[u8],
+    call: Call,
+    text: &mut [u8],
+    used: usize,
+    out: &mut [u64],
+) -> Result<(usize, usize), Refusal> {
     let mut space = [0u64; 64];
-    let answer = head(case, call, text, used, &mut space);
-    let Joined::Words(words, mark) = answer else {
-        return answer;
-    };
+    let (words, mark) = head(case, call, text, used, &mut space)?;
     if 64 < words {
-        return Joined::Refused(Refusal::OutputShort(0));
+        return Err(Refusal::OutputShort(0));
     }
     select_rows(case, call, &space[0..words], text, mark, out)
 }
 
 // What the call of a case gives.
-fn called(case: &[u8], call: Call, text: &mut [u8], used: usize, out: &mut [u64]) -> Joined {
+fn called(
+    case: &[u8],
+    call: Call,
+    text: &mut [u8],
+    used: usize,
+    out: &mut [u64],
+) -> Result<(usize, usize), Refusal> {
     if call.selects {
         return select_joined(case, call, text, used, out);
     }
-    marked(joined(case, call, text, used, out), used)
+    let count = joined(case, call, text, used, out)?;
+    Ok((count, used))
 }
 
 // Whether the call leaves what is expected, with the text above the mark and the output filled with this rubbish.
@@ -297,31 +311,8 @@ fn replays(case: &[u8], text: &mut [u8], out: &mut [u64], rubbish: u64) -> bool 
     )
 }
 
-// 1 where the case of this number differs under either rubbish, which is told, else 0.
-fn difference(case: &[u8], text: &mut [u8], out: &mut [u64], number: u64) -> u64
-    ensures { result ≤ 1 }
-{
-    let one = replays(case, text, out, number % 1000);
-    let two = replays(case, text, out, 77 + number % 1000);
-    replay::verdict(number, one && two)
-}
-
 fn main() {
-    let mut space = [0u8; 262144];
-    let buffer: &mut [u8] = &mut space;
-    let mut room = [0u8; 65537];
-    let text: &mut [u8] = &mut room;
-    let mut place = [0u64; 8200];
-    let out: &mut [u64] = &mut place;
-    let mut cases: u64 = 0;
-    let mut differ: u64 = 0;
-    while cases < 1000000 {
-        let size = replay::next_case(buffer);
-        if size == 0 {
-            break;
-        }
-        differ += difference(&buffer[0..size], text, out, cases);
-        cases += 1;
-    }
-    replay::report(cases, differ);
+    let mut text = [0u8; 65537];
+    let mut out = [0u64; 8200];
+    replay::each_case(|case, rubbish| replays(case, &mut text, &mut out, rubbish));
 }

@@ -4,9 +4,8 @@
 
 ghost use Rattle.std.specs.Prelude.{◌≡◌, ◌≤◌, length};
 
-use integers::Answer;
+use integers::Fault;
 use operators::Rules;
-use refusals::Checked;
 use replay::Expected;
 
 // A leaf's word, and where the next node starts; no leaf starts beyond the end.
@@ -59,10 +58,10 @@ fn leaf(condition: &[u8], at: usize, row: &[u64]) -> Operand
 }
 
 // A two-sided operator on two words, where they are sound and there is room.
-fn two_sided(op: u64, a: u64, b: u64, text: &mut [u8], used: usize) -> Answer
+fn two_sided(op: u64, a: u64, b: u64, text: &mut [u8], used: usize) -> Result<(u64, usize), Fault>
     ensures { length text.new ≡ length text.old }
 {
-    let none = Answer::Gave(0xffff_ffff_ffff_ffff, used);
+    let none = Ok((0xffff_ffff_ffff_ffff, used));
     if op < 32 {
         return none;
     }
@@ -79,26 +78,29 @@ fn two_sided(op: u64, a: u64, b: u64, text: &mut [u8], used: usize) -> Answer
     if size - 1024 < used {
         return none;
     }
-    let first = cells::check_cell(a, used, 0);
-    let Checked::Sound = first else {
+    let Ok(()) = cells::check_cell(a, used, 0) else {
         return none;
     };
-    let second = cells::check_cell(b, used, 0);
-    let Checked::Sound = second else {
+    let Ok(()) = cells::check_cell(b, used, 0) else {
         return none;
     };
     operators::binary(Rules { limit: 1024 }, op, a, b, text, used)
 }
 
 // What the condition's one operator gives.
-fn computed(condition: &[u8], row: &[u64], text: &mut [u8], used: usize) -> Answer
+fn computed(
+    condition: &[u8],
+    row: &[u64],
+    text: &mut [u8],
+    used: usize,
+) -> Result<(u64, usize), Fault>
     ensures { length text.new ≡ length text.old }
 {
-    let none = Answer::Gave(0xffff_ffff_ffff_ffff, used);
+    let none = Ok((0xffff_ffff_ffff_ffff, used));
     let a = leaf(condition, 0, row);
     let at = a.next;
     if at == condition.len() {
-        return Answer::Gave(a.word, used);
+        return Ok((a.word, used));
     }
     if condition.len() < at {
         return none;
@@ -122,15 +124,19 @@ fn computed(condition: &[u8], row: &[u64], text: &mut [u8], used: usize) -> Answ
 }
 
 // Whether an answer is the one expected, and the stored text as it was.
-fn agrees(answer: Answer, e: Expected, text: &[u8], stored: &[u8], content: &[u8]) -> bool {
+fn agrees(
+    answer: Result<(u64, usize), Fault>,
+    e: Expected,
+    text: &[u8],
+    stored: &[u8],
+    content: &[u8],
+) -> bool {
     if !replay::keeps(text, stored) {
         return false;
     }
     match answer {
-        Answer::Gave(word, _) => replay::is_word(e, word, text, stored.len(), content),
-        Answer::Overflow => e.number == 5 && e.place == 0,
-        Answer::ShiftAmount => e.number == 6 && e.place == 0,
-        Answer::TooLong => e.number == 7 && e.place == 0,
+        Ok((word, _)) => replay::is_word(e, word, text, stored.len(), content),
+        Err(fault) => e.number == fault.at(0).number() && e.place == 0,
     }
 }
 
@@ -186,29 +192,7 @@ fn replays(case: &[u8], text: &mut [u8], rubbish: u64) -> bool
     )
 }
 
-// 1 where the case of this number differs under either rubbish, which is told, else 0.
-fn difference(case: &[u8], text: &mut [u8], number: u64) -> u64
-    ensures { (result ≤ 1) × (length text.new ≡ length text.old) }
-{
-    let one = replays(case, text, number % 1000);
-    let two = replays(case, text, 77 + number % 1000);
-    replay::verdict(number, one && two)
-}
-
 fn main() {
-    let mut space = [0u8; 262144];
-    let buffer: &mut [u8] = &mut space;
-    let mut room = [0u8; 65536];
-    let text: &mut [u8] = &mut room;
-    let mut cases: u64 = 0;
-    let mut differ: u64 = 0;
-    while cases < 1000000 {
-        let size = replay::next_case(buffer);
-        if size == 0 {
-            break;
-        }
-        differ += difference(&buffer[..size], text, cases);
-        cases += 1;
-    }
-    replay::report(cases, differ);
+    let mut text = [0u8; 65536];
+    replay::each_case(|case, rubbish| replays(case, &mut text, rubbish));
 }

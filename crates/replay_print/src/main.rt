@@ -4,9 +4,8 @@
 ghost use Rattle.std.specs.Prelude.{◌≤◌, length};
 ghost use Rattle.cells.specs.Cell.{WellFormed};
 
-use refusals::{Checked, Refusal};
+use refusals::Refusal;
 use replay::Expected;
-use writing::Written;
 
 // Whether a cell is a text with a byte of 128 or more.
 fn is_high(word: u64, stored: &[u8]) -> bool
@@ -21,20 +20,17 @@ fn is_high(word: u64, stored: &[u8]) -> bool
 }
 
 // One value as it is printed, or 15, then 9.
-fn print_value(word: u64, stored: &[u8], out: &mut [u8]) -> Written {
-    let checked = cells::check_cell(word, stored.len(), 0);
-    if let Checked::Refused(r) = checked {
-        return Written::Refused(r);
-    }
+fn print_value(word: u64, stored: &[u8], out: &mut [u8]) -> Result<usize, Refusal> {
+    cells::check_cell(word, stored.len(), 0)?;
     if is_high(word, stored) {
-        return Written::Refused(Refusal::NotPrintable(0));
+        return Err(Refusal::NotPrintable(0));
     }
     let mut none = [0u8; 0];
     let needed = display::put_value(word, stored, &mut none, 0);
     if out.len() < needed {
-        return Written::Refused(Refusal::OutputShort(needed));
+        return Err(Refusal::OutputShort(needed));
     }
-    Written::Count(display::put_value(word, stored, out, 0))
+    Ok(display::put_value(word, stored, out, 0))
 }
 
 // The call of this number.
@@ -46,7 +42,7 @@ fn called(
     text: &[u8],
     used: usize,
     out: &mut [u8],
-) -> Written {
+) -> Result<usize, Refusal> {
     if call == 22 {
         return printing::print(condition, text, used, out);
     }
@@ -116,31 +112,8 @@ fn replays(case: &[u8], text: &mut [u8], out: &mut [u8], rubbish: u64) -> bool {
     )
 }
 
-// 1 where the case of this number differs under either rubbish, which is told, else 0.
-fn difference(case: &[u8], text: &mut [u8], out: &mut [u8], number: u64) -> u64
-    ensures { result ≤ 1 }
-{
-    let one = replays(case, text, out, number % 1000);
-    let two = replays(case, text, out, 77 + number % 1000);
-    replay::verdict(number, one && two)
-}
-
 fn main() {
-    let mut space = [0u8; 262144];
-    let buffer: &mut [u8] = &mut space;
-    let mut room = [0u8; 65537];
-    let text: &mut [u8] = &mut room;
-    let mut place = [0u8; 1100];
-    let out: &mut [u8] = &mut place;
-    let mut cases: u64 = 0;
-    let mut differ: u64 = 0;
-    while cases < 1000000 {
-        let size = replay::next_case(buffer);
-        if size == 0 {
-            break;
-        }
-        differ += difference(&buffer[0..size], text, out, cases);
-        cases += 1;
-    }
-    replay::report(cases, differ);
+    let mut text = [0u8; 65537];
+    let mut out = [0u8; 1100];
+    replay::each_case(|case, rubbish| replays(case, &mut text, &mut out, rubbish));
 }

@@ -3,11 +3,18 @@
 
 ghost use Rattle.std.specs.Prelude.{◌+◌, ◌≤◌, length};
 
+use refusals::Refusal;
 use replay::Text;
-use writing::Written;
 
 // Whether an answer is the one expected at this place of the case, the text below the mark as it was, and the output as expected.
-fn left_so(case: &[u8], lent: Text, answer: Written, text: &[u8], out: &[u64], rubbish: u64) -> bool
+fn left_so(
+    case: &[u8],
+    lent: Text,
+    answer: Result<usize, Refusal>,
+    text: &[u8],
+    out: &[u64],
+    rubbish: u64,
+) -> bool
     requires { (lent.stored.start + lent.stored.count ≤ length case.now) × (lent.stored.next ≤ length case.now) }
 {
     let stored = replay::part(case, lent.stored);
@@ -27,7 +34,7 @@ fn called(
     text: &mut [u8],
     used: usize,
     out: &mut [u64],
-) -> Written {
+) -> Result<usize, Refusal> {
     match call {
         25 => selecting::select(columns, rows, list, condition, text, used, out),
         28 => selecting::delete(columns, rows, condition, text, used, out),
@@ -138,31 +145,8 @@ fn replays(case: &[u8], text: &mut [u8], out: &mut [u64], rubbish: u64) -> bool 
     )
 }
 
-// 1 where the case of this number differs under either rubbish, which is told, else 0.
-fn difference(case: &[u8], text: &mut [u8], out: &mut [u64], number: u64) -> u64
-    ensures { result ≤ 1 }
-{
-    let one = replays(case, text, out, number % 1000);
-    let two = replays(case, text, out, 77 + number % 1000);
-    replay::verdict(number, one && two)
-}
-
 fn main() {
-    let mut space = [0u8; 262144];
-    let buffer: &mut [u8] = &mut space;
-    let mut room = [0u8; 65537];
-    let text: &mut [u8] = &mut room;
-    let mut place = [0u64; 4200];
-    let out: &mut [u64] = &mut place;
-    let mut cases: u64 = 0;
-    let mut differ: u64 = 0;
-    while cases < 1000000 {
-        let size = replay::next_case(buffer);
-        if size == 0 {
-            break;
-        }
-        differ += difference(&buffer[0..size], text, out, cases);
-        cases += 1;
-    }
-    replay::report(cases, differ);
+    let mut text = [0u8; 65537];
+    let mut out = [0u64; 4200];
+    replay::each_case(|case, rubbish| replays(case, &mut text, &mut out, rubbish));
 }

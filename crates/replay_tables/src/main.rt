@@ -4,7 +4,7 @@
 ghost use Rattle.std.specs.Prelude.{◌≡◌, ◌+◌, ◌≤◌, length};
 
 use columns::RowNumber;
-use naming::Joined;
+use refusals::Refusal;
 use replay::{Expected, Text};
 
 // An accepted answer, with the mark where it was.
@@ -139,12 +139,18 @@ fn stands(text: &[u8], from: usize, to: usize, bytes: &[u8]) -> bool {
 }
 
 // Whether an answer is the one expected, and the new text stands at the old mark.
-fn agrees(answer: Joined, e: Expected, text: &[u8], used: usize, new: &[u8]) -> bool {
+fn agrees(
+    answer: Result<(usize, usize), Refusal>,
+    e: Expected,
+    text: &[u8],
+    used: usize,
+    new: &[u8],
+) -> bool {
     match answer {
-        Joined::Words(count, top) => {
+        Ok((count, top)) => {
             replay::is_answer(e, 0, 0, count, top) && stands(text, used, top, new)
         }
-        Joined::Refused(r) => replay::is_answer(e, r.number(), r.place(), 0, used),
+        Err(r) => replay::is_answer(e, r.number(), r.place(), 0, used),
     }
 }
 
@@ -152,7 +158,7 @@ fn agrees(answer: Joined, e: Expected, text: &[u8], used: usize, new: &[u8]) -> 
 fn left_so(
     case: &[u8],
     at: usize,
-    answer: Joined,
+    answer: Result<(usize, usize), Refusal>,
     text: &[u8],
     used: usize,
     out: &[u64],
@@ -175,7 +181,7 @@ fn joined(
     text: &mut [u8],
     used: usize,
     out: &mut [u64],
-) -> Joined
+) -> Result<(usize, usize), Refusal>
     ensures { (length text.new ≡ length text.old) × (length out.new ≡ length out.old) }
 {
     if outer {
@@ -264,31 +270,8 @@ fn replays(case: &[u8], text: &mut [u8], out: &mut [u64], rubbish: u64) -> bool
     }
 }
 
-// 1 where the case of this number differs under either rubbish, which is told, else 0.
-fn difference(case: &[u8], text: &mut [u8], out: &mut [u64], number: u64) -> u64
-    ensures { (result ≤ 1) × (length text.new ≡ length text.old) × (length out.new ≡ length out.old) }
-{
-    let one = replays(case, text, out, number % 1000);
-    let two = replays(case, text, out, 77 + number % 1000);
-    replay::verdict(number, one && two)
-}
-
 fn main() {
-    let mut space = [0u8; 262144];
-    let buffer: &mut [u8] = &mut space;
-    let mut room = [0u8; 65537];
-    let text: &mut [u8] = &mut room;
-    let mut place = [0u64; 100];
-    let out: &mut [u64] = &mut place;
-    let mut cases: u64 = 0;
-    let mut differ: u64 = 0;
-    while cases < 1000000 {
-        let size = replay::next_case(buffer);
-        if size == 0 {
-            break;
-        }
-        differ += difference(&buffer[..size], text, out, cases);
-        cases += 1;
-    }
-    replay::report(cases, differ);
+    let mut text = [0u8; 65537];
+    let mut out = [0u64; 100];
+    replay::each_case(|case, rubbish| replays(case, &mut text, &mut out, rubbish));
 }

@@ -1,13 +1,10 @@
 // Replays the recorded cases of values and columns (docs/CASES.md, calls 1 to 7) from standard input.
 #![tactic(auto)]
 
-ghost use Rattle.std.specs.Prelude.{◌≤◌};
-
 use cells::ValueRef;
-use columns::Found;
-use refusals::Checked;
+use refusals::Refusal;
 use replay::Expected;
-use slices::Ordering;
+use std::cmp::Ordering;
 
 // An accepted answer with a value.
 fn gives(e: Expected, value: u64) -> bool {
@@ -15,10 +12,10 @@ fn gives(e: Expected, value: u64) -> bool {
 }
 
 // What a check found is the refusal expected, or none.
-fn agrees(checked: Checked, e: Expected) -> bool {
+fn agrees(checked: Result<(), Refusal>, e: Expected) -> bool {
     match checked {
-        Checked::Sound => gives(e, 0),
-        Checked::Refused(r) => r.number() == e.number && r.place() as u64 == e.place,
+        Ok(()) => gives(e, 0),
+        Err(r) => r.number() == e.number && r.place() as u64 == e.place,
     }
 }
 
@@ -38,12 +35,10 @@ fn flag(boolean: bool) -> u64 {
 
 // The number of two cells' order, or 3 where a cell is refused or equality says otherwise.
 fn order_in(a: u64, b: u64, stored: &[u8]) -> u64 {
-    let first = cells::check_cell(a, stored.len(), 0);
-    let Checked::Sound = first else {
+    let Ok(()) = cells::check_cell(a, stored.len(), 0) else {
         return 3;
     };
-    let second = cells::check_cell(b, stored.len(), 0);
-    let Checked::Sound = second else {
+    let Ok(()) = cells::check_cell(b, stored.len(), 0) else {
         return 3;
     };
     let order = number_of(values::compare_cells(a, b, stored));
@@ -67,7 +62,7 @@ fn compared(case: &[u8]) -> bool {
 
 // Call 2: the truth of a cell.
 fn judged(case: &[u8]) -> bool {
-    let truth = values::to_bool(ValueRef::from_word(replay::eight(case, 4)));
+    let truth = values::to_bool(ValueRef::from(replay::eight(case, 4)));
     gives(
         replay::answer(case, replay::after(case, 0, 12)),
         flag(truth),
@@ -79,7 +74,7 @@ fn cell_checked(case: &[u8]) -> bool {
     let word = replay::eight(case, 4);
     let used = replay::eight(case, 12) as usize;
     let e = replay::answer(case, replay::after(case, 0, 20));
-    if cells::is_cell(word) && ValueRef::from_word(word).to_word() != word {
+    if cells::is_cell(word) && u64::from(ValueRef::from(word)) != word {
         return false;
     }
     agrees(cells::check_cell(word, used, 0), e)
@@ -98,7 +93,7 @@ fn column_checked(case: &[u8]) -> bool {
 fn validated(case: &[u8]) -> bool {
     let valid = rules::is_valid_value(
         replay::eight(case, 4),
-        ValueRef::from_word(replay::eight(case, 12)),
+        ValueRef::from(replay::eight(case, 12)),
     );
     gives(
         replay::answer(case, replay::after(case, 0, 20)),
@@ -115,13 +110,12 @@ fn made_nullable(case: &[u8]) -> bool {
 // The number of the column of a name, or the count of columns; one more where they are refused.
 fn column_in(columns: &[u64], stored: &[u8], name: &[u8]) -> u64 {
     let count = (columns.len() / 2) as u64;
-    let checked = columns::check_columns(columns, stored.len(), 0);
-    let Checked::Sound = checked else {
+    let Ok(()) = columns::check_columns(columns, stored.len(), 0) else {
         return count + 1;
     };
     match columns::find_column(columns, stored, name) {
-        Found::At(number) => number.0 as u64,
-        Found::Nothing => count,
+        Some(number) => number.0 as u64,
+        None => count,
     }
 }
 
@@ -163,25 +157,6 @@ fn replays(case: &[u8]) -> bool {
     }
 }
 
-// 1 where the case of this number differs, which is told, else 0.
-fn difference(case: &[u8], number: u64) -> u64
-    ensures { result ≤ 1 }
-{
-    replay::verdict(number, replays(case))
-}
-
 fn main() {
-    let mut space = [0u8; 262144];
-    let buffer: &mut [u8] = &mut space;
-    let mut cases: u64 = 0;
-    let mut differ: u64 = 0;
-    while cases < 1000000 {
-        let size = replay::next_case(buffer);
-        if size == 0 {
-            break;
-        }
-        differ += difference(&buffer[..size], cases);
-        cases += 1;
-    }
-    replay::report(cases, differ);
+    replay::each_case(|case, _| replays(case));
 }

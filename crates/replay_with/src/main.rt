@@ -1,8 +1,6 @@
 // Replays the recorded cases of `with` (docs/CASES.md, call 21) from standard input.
 #![tactic(auto)]
 
-ghost use Rattle.std.specs.Prelude.{◌≤◌};
-
 use replay::Expected;
 
 // Whether the call gives the answer and the output expected, with the text above the mark and the output filled with this rubbish.
@@ -58,31 +56,8 @@ fn replays(case: &[u8], text: &mut [u8], out: &mut [u8], rubbish: u64) -> bool {
     )
 }
 
-// 1 where the case of this number differs under either rubbish, which is told, else 0.
-fn difference(case: &[u8], text: &mut [u8], out: &mut [u8], number: u64) -> u64
-    ensures { result ≤ 1 }
-{
-    let one = replays(case, text, out, number % 1000);
-    let two = replays(case, text, out, 77 + number % 1000);
-    replay::verdict(number, one && two)
-}
-
 fn main() {
-    let mut space = [0u8; 262144];
-    let buffer: &mut [u8] = &mut space;
-    let mut room = [0u8; 65537];
-    let text: &mut [u8] = &mut room;
-    let mut place = [0u8; 1100];
-    let out: &mut [u8] = &mut place;
-    let mut cases: u64 = 0;
-    let mut differ: u64 = 0;
-    while cases < 1000000 {
-        let size = replay::next_case(buffer);
-        if size == 0 {
-            break;
-        }
-        differ += difference(&buffer[0..size], text, out, cases);
-        cases += 1;
-    }
-    replay::report(cases, differ);
+    let mut text = [0u8; 65537];
+    let mut out = [0u8; 1100];
+    replay::each_case(|case, rubbish| replays(case, &mut text, &mut out, rubbish));
 }

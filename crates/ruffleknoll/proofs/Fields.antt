@@ -4,7 +4,6 @@ use mathlib.Core.Path.{◌≡◌}
 use mathlib.Core.List.{List, []}
 use lib.ListN.{length, take}
 use Rattle.refusals.specs.Stop.{never, stop}
-use Rattle.writing.specs.declared.Written.{Written}
 use Rattle.operators.specs.Operator.{base}
 use Rattle.entries.specs.Entries.{Row, row_in, Given, list_words, Outcome, answered, refused, left_join, inner_join}
 use Rattle.joins.specs.Join.{rows_of, is_whole, given_of, OutcomeIs}
@@ -13,6 +12,8 @@ use Rattle.answers.specs.Tells.{Tells}
 use Rattle.answers.specs.declared.Answer.{Answer}
 use Rattle.answers.proofs.Fields.{stopped, written_fields}
 use Rattle.ruffleknoll.specs.Calls.{InnerJoins, LeftJoins}
+use Rattle.std.specs.Prelude.{Result}
+use Rattle.refusals.specs.declared.Refusal.{Refusal}
 
 -- the rows written are the entries listed
 abbrev pub of_outcome : ℕ → Outcome → Answer
@@ -20,7 +21,7 @@ of_outcome used (answered es) = accepted (length es) used
 of_outcome used (refused number place) = stopped used number place
 
 outcome_fields : (used : ℕ) (g : Given) (rights : List Row) (before after : List ℕ) (o : Outcome) (r : Answer)
-    → Tells Written (of_written used) (λ w. OutcomeIs g rights before after w o) r → r ≡ of_outcome used o
+    → Tells (Result ℕ Refusal) (of_written used) (λ w. OutcomeIs g rights before after w o) r → r ≡ of_outcome used o
 outcome_fields used g rights before after (answered es) r h =
     written_fields used before after never (length es) (list_words (row_in g.left) (row_in rights) g.columns es) r h
 outcome_fields used g rights before after (refused number place) r h = written_fields used before after (stop number place) 0 [] r h

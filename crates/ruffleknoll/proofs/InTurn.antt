@@ -17,8 +17,6 @@ use Rattle.slices.proofs.Pieces.{piece_length}
 use Rattle.cells.specs.Cell.{cell_stop}
 use Rattle.cells.proofs.Stops.{never_stops, stop_never, well_formed, inside_more}
 use Rattle.checks.specs.Check.{room_stop, cells_stop}
-use Rattle.writing.specs.declared.Written.{Written}
-use Rattle.writing.specs.declared.Written.TheVariants.{Count}
 use Rattle.writing.proofs.Reports.{same_count, count_apart, same_wrote, wrote_apart}
 use Rattle.operators.specs.Operator.{base}
 use Rattle.operators.specs.declared.Rules.{Rules}
@@ -38,7 +36,6 @@ use Rattle.pairs.proofs.Pairing.{cells_both}
 use Rattle.seeking.proofs.Keyed.{nulls_sound}
 use Rattle.keeping.specs.Table.{table_stop}
 use Rattle.naming.specs.OneSide.{Head, joined}
-use Rattle.naming.specs.declared.Joined.TheVariants.{Words}
 use Rattle.heads.specs.Heads.{head, HeadIs}
 use Rattle.heads.proofs.Sound.{joined_sound}
 use Rattle.joins.specs.Join.{rows_of, is_whole, given_of, OutcomeIs}
@@ -50,6 +47,8 @@ use Rattle.answers.specs.Tells.{Tells}
 use Rattle.answers.specs.declared.Answer.{Answer}
 use Rattle.answers.proofs.Apart.{written_apart, joined_apart}
 use Rattle.ruffleknoll.specs.Calls.{JoinsColumns, LeftJoins, InnerJoins}
+use Rattle.std.specs.Prelude.{Result, Ok}
+use Rattle.refusals.specs.declared.Refusal.{Refusal}
 
 -- ---- sound cells
 
@@ -255,7 +254,7 @@ record ColumnsTold (h : Head) (written : List ℕ) (n mark : ℕ) : Type 0 where
   marked : mark ≡ length stored
 
 -- a call that told words and a mark joined the columns
-columns_told : (h : Head) (stored after out written : List ℕ) (n mark : ℕ) → HeadIs h stored after out written (Words n mark) → ColumnsTold h written n mark
+columns_told : (h : Head) (stored after out written : List ℕ) (n mark : ℕ) → HeadIs h stored after out written (Ok (n, mark)) → ColumnsTold h written n mark
 columns_told (joined columns s) stored after out written n mark h =
     let e = same_wrote n mark (length columns) (length s) h.says in
     record {
@@ -276,11 +275,11 @@ record RowsTold (g : Given) (rights : List Row) (written : List ℕ) (count : �
   front : take (length (list_words (row_in g.left) (row_in rights) g.columns entries)) written ≡ list_words (row_in g.left) (row_in rights) g.columns entries
 
 -- a call that told a count answered a list
-rows_told : (g : Given) (rights : List Row) (out written : List ℕ) (count : ℕ) (o : Outcome) → OutcomeIs g rights out written (Count count) o → RowsTold g rights written count o
-rows_told g rights out written count (answered es) h =
-    let words = list_words (row_in g.left) (row_in rights) g.columns es in
+rows_told : (g : Given) (rights : List Row) (out written : List ℕ) (count : ℕ) (o : Outcome) → OutcomeIs g rights out written (Ok count) o → RowsTold g rights written count o
+rows_told g right out written count (answered es) h =
+    let words = list_words (row_in g.left) (row_in right) g.columns es in
     record { entries = es; comes = refl; counted = same_count count (length es) h.says; front = ap (take (length words)) h.output ∙ front_written out words }
-rows_told g rights out written count (refused number place) h = absurd (count_apart count number place h.says)
+rows_told g right out written count (refused number place) h = absurd (count_apart count number place h.says)
 
 -- `left_join` pads, `inner_join` doesn't
 abbrev pub Joins : Bool → (left_columns left right_columns right condition text : List ℕ) (used : ℕ) (out written : List ℕ) → Answer → Type 0
@@ -288,8 +287,8 @@ Joins true = LeftJoins
 Joins false = InnerJoins
 
 -- what an accepted struct tells of its call
-told_count : (used count : ℕ) (Is : Written → Type 0) → Tells Written (of_written used) Is (accepted count used) → Is (Count count)
-told_count used count Is h = subst Is (written_apart used h.answer (Count count) (sym h.says)) h.is
+told_count : (used count : ℕ) (Is : Result ℕ Refusal → Type 0) → Tells (Result ℕ Refusal) (of_written used) Is (accepted count used) → Is (Ok count)
+told_count used count Is h = subst Is (written_apart used h.answer (Ok count) (sym h.says)) h.is
 
 module _ (pads : Bool) (left_columns left right_columns right condition text : List ℕ) (used : ℕ) (out written : List ℕ) (count : ℕ) where
   -- what the call is given
@@ -302,7 +301,7 @@ module _ (pads : Bool) (left_columns left right_columns right condition text : L
   join_told h = rows_told lent (rows_of right_columns right) out written count _ (by pads h)
     where
       by : (p : Bool) → Joins p left_columns left right_columns right condition text used out written (accepted count used)
-          → OutcomeIs lent (rows_of right_columns right) out written (Count count) (join_of p lent (rows_of right_columns right) (length out))
+          → OutcomeIs lent (rows_of right_columns right) out written (Ok count) (join_of p lent (rows_of right_columns right) (length out))
       by true h = told_count used count _ h
       by false h = told_count used count _ h
 
@@ -315,7 +314,7 @@ pub calls_in_turn : (pads : Bool) (left_name left_columns right_name right_colum
 calls_in_turn pads left_name left_columns right_name right_columns text used out after written n mark h left right condition text' used' out' written' count l k =
     let headed = head pads left_name left_columns right_name right_columns (take used text) (length text) used (length out) in
     let c = columns_told headed (take used text) after out written n mark
-    (subst (HeadIs headed (take used text) after out written) (joined_apart used h.answer (Words n mark) (sym h.says)) h.is) in
+    (subst (HeadIs headed (take used text) after out written) (joined_apart used h.answer (Ok (n, mark)) (sym h.says)) h.is) in
     let r = join_told pads left_columns left right_columns right condition text' used' out' written' count k in
     let es = r.entries in
     let rows = join_rows left_columns left right_columns right es in

@@ -6,7 +6,6 @@ use mathlib.Core.Bool.{Bool}
 use mathlib.Core.List.{List}
 use lib.ListN.{length, take}
 use Rattle.refusals.specs.Stop.{unless_stopped}
-use Rattle.writing.specs.declared.Written.{Written}
 use Rattle.operators.specs.Operator.{base}
 use Rattle.folding.specs.Call as folding
 use Rattle.folding.specs.Call.{FoldIs}
@@ -38,6 +37,8 @@ use Rattle.answers.specs.declared.Answer.{Answer}
 use Rattle.answers.specs.declared.Part.{Part}
 use Rattle.answers.proofs.Unique.{OneEvaluated, one_evaluated, one_folded, one_joined, one_part, one_struct}
 use Rattle.ruffleknoll.specs.Calls.{Evaluates, Folds, Binds, Conjoins, Prints, JoinsColumns, Selects, InnerJoins, LeftJoins, Deletes, Updates, Inserts, TextKept}
+use Rattle.std.specs.Prelude.{Result}
+use Rattle.refusals.specs.declared.Refusal.{Refusal}
 
 -- two lent texts that are as long as each other and the same below the mark
 pub record SameBelow (used : ℕ) (text text' : List ℕ) : Type 0 where
@@ -50,14 +51,14 @@ module _ (P : ℕ → List ℕ → Type 0) (used : ℕ) (text text' : List ℕ) 
   also p = subst (λ n. P n (take used text)) (sym s.long) (subst (P (length text')) (sym s.below) p)
 
 -- the calls that tell a count: a definition whose answers are unique makes the struct unique
-module _ (used : ℕ) (Is : ℕ → List ℕ → List ℕ → Written → Type 0)
-    (one : (size : ℕ) (stored written written' : List ℕ) (a b : Written) → Is size stored written a → Is size stored written' b → (a ≡ b) × (written ≡ written'))
+module _ (used : ℕ) (Is : ℕ → List ℕ → List ℕ → Result ℕ Refusal → Type 0)
+    (one : (size : ℕ) (stored written written' : List ℕ) (a b : Result ℕ Refusal) → Is size stored written a → Is size stored written' b → (a ≡ b) × (written ≡ written'))
     (text text' written written' : List ℕ) (s : SameBelow used text text') (r r' : Answer) where
-  one_count : Tells Written (of_written used) (Is (length text) (take used text) written) r → Tells Written (of_written used) (Is (length text') (take used text') written') r'
+  one_count : Tells (Result ℕ Refusal) (of_written used) (Is (length text) (take used text) written) r → Tells (Result ℕ Refusal) (of_written used) (Is (length text') (take used text') written') r'
       → (r ≡ r') × (written ≡ written')
   one_count h k =
       let e = one (length text) (take used text) written written' h.answer k.answer h.is (also (λ n t. Is n t written' k.answer) used text text' s k.is) in (
-        one_struct Written (of_written used) (Is (length text) (take used text) written) (Is (length text') (take used text') written') r r' h k e.0,
+        one_struct (Result ℕ Refusal) (of_written used) (Is (length text) (take used text) written) (Is (length text') (take used text') written') r r' h k e.0,
         e.1,
       )
 

@@ -26,7 +26,7 @@ pub extern "C" fn ruffleknoll_fold(
 ) -> Answer
     ensures { Folds condition.now text.old used out.old text.new out.new result }
 {
-    answers::of_shortened(folding::fold(condition, text, used, out), used)
+    answers::of_moved(folding::fold(condition, text, used, out), used)
 }
 
 // `bind`: the value is the bytes written.

@@ -43,7 +43,7 @@ pub extern "C" fn ruffleknoll_inner_join_columns(
 ) -> Answer
     ensures { JoinsColumns false left_name.now left.now right_name.now right.now text.old used out.old text.new out.new result }
 {
-    answers::of_joined(
+    answers::of_moved(
         heads::inner_join_columns(left_name, left, right_name, right, text, used, out),
         used,
     )
@@ -62,7 +62,7 @@ pub extern "C" fn ruffleknoll_left_join_columns(
 ) -> Answer
     ensures { JoinsColumns true left_name.now left.now right_name.now right.now text.old used out.old text.new out.new result }
 {
-    answers::of_joined(
+    answers::of_moved(
         heads::left_join_columns(left_name, left, right_name, right, text, used, out),
         used,
     )

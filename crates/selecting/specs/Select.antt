@@ -2,7 +2,6 @@
 use Rattle.std.specs.Prelude.{ℕ, true, List, [], ◌∷◌, length, leb}
 use Rattle.refusals.specs.Stop.{Stop, first_of}
 use Rattle.writing.specs.Writing.{WrittenIs}
-use Rattle.writing.specs.declared.Written.{Written}
 use Rattle.operators.specs.declared.Rules.{Rules}
 use Rattle.tables.specs.Table.{column_count}
 use Rattle.testing.specs.Test.{condition_stop}
@@ -11,6 +10,8 @@ use Rattle.marking.specs.Marks.{part, test_of}
 use Rattle.projecting.specs.Project.{projected, list_stop}
 use Rattle.keeping.specs.Table.{row_count, table_stop}
 use Rattle.checks.specs.Check.{short_stop}
+use Rattle.std.specs.Prelude.{Result}
+use Rattle.refusals.specs.declared.Refusal.{Refusal}
 
 -- the words that select lists: the true rows in order, then projected
 abbrev pub selected : Test → List ℕ → List ℕ → List ℕ → List ℕ
@@ -28,7 +29,7 @@ select_stop t b columns rows list size used output =
     ∷ [])
 
 -- what `select` answers and writes
-abbrev pub SelectIs : Rules → List ℕ → List ℕ → List ℕ → List ℕ → List ℕ → ℕ → ℕ → List ℕ → List ℕ → Written → Type 0
+abbrev pub SelectIs : Rules → List ℕ → List ℕ → List ℕ → List ℕ → List ℕ → ℕ → ℕ → List ℕ → List ℕ → Result ℕ Refusal → Type 0
 SelectIs R columns rows list b stored size used before after answer =
     WrittenIs before after answer (select_stop (test_of R b used stored rows (column_count columns)) b columns rows list size used (length before))
     (length (true_rows (test_of R b used stored rows (column_count columns)) (row_count columns rows)))
@@ -49,7 +50,7 @@ delete_stop t b columns rows size used output =
     ∷ [])
 
 -- what `delete` answers and writes
-abbrev pub DeleteIs : Rules → List ℕ → List ℕ → List ℕ → List ℕ → ℕ → ℕ → List ℕ → List ℕ → Written → Type 0
+abbrev pub DeleteIs : Rules → List ℕ → List ℕ → List ℕ → List ℕ → ℕ → ℕ → List ℕ → List ℕ → Result ℕ Refusal → Type 0
 DeleteIs R columns rows b stored size used before after answer =
     WrittenIs before after answer (delete_stop (test_of R b used stored rows (column_count columns)) b columns rows size used (length before))
     (length (other_rows (test_of R b used stored rows (column_count columns)) (row_count columns rows)))

@@ -5,9 +5,7 @@ ghost use Rattle.std.specs.Prelude.{◌≡◌, length, take};
 ghost use Rattle.operators.specs.Operator.{base};
 ghost use Rattle.selecting.specs.Select.{SelectIs, DeleteIs};
 
-use marking::Marked;
-use refusals::Checked;
-use writing::Written;
+use refusals::Refusal;
 
 // `select`: all rows are tested before any is written, since a refused call leaves the output alone.
 pub fn select(
@@ -18,26 +16,18 @@ pub fn select(
     text: &mut [u8],
     used: usize,
     out: &mut [u64],
-) -> Written
+) -> Result<usize, Refusal>
     ensures select_is { SelectIs base columns.now rows.now list.now condition.now
         (take used text.old) (length text.old) used out.old out.new result }
     ensures text_unchanged { (take used text.new ≡ take used text.old) × (length condition.now ≡ 0 → text.new ≡ text.old) }
 {
-    let table = keeping::check_table(columns, rows, list.len() <= 32, condition, text.len(), used);
-    if let Checked::Refused(r) = table {
-        return Written::Refused(r);
-    }
+    keeping::check_table(columns, rows, list.len() <= 32, condition, text.len(), used)?;
     let width = columns.len() / 2;
-    let listed = projecting::check_list(list, width);
-    if let Checked::Refused(r) = listed {
-        return Written::Refused(r);
-    }
+    projecting::check_list(list, width)?;
     let n = rows.len() / width;
     let mut marks = [0u64; 4096];
-    match marking::mark_table(condition, rows, width, n, text, used, &mut marks) {
-        Marked::Refused(r) => Written::Refused(r),
-        Marked::Rows(k) => keeping::write_kept(rows, width, n, list, &marks, 1, k, out),
-    }
+    let k = marking::mark_table(condition, rows, width, n, text, used, &mut marks)?;
+    keeping::write_kept(rows, width, n, list, &marks, 1, k, out)
 }
 
 // `delete`: the other rows are written.
@@ -48,20 +38,15 @@ pub fn delete(
     text: &mut [u8],
     used: usize,
     out: &mut [u64],
-) -> Written
+) -> Result<usize, Refusal>
     ensures delete_is { DeleteIs base columns.now rows.now condition.now
         (take used text.old) (length text.old) used out.old out.new result }
     ensures text_unchanged { (take used text.new ≡ take used text.old) × (length condition.now ≡ 0 → text.new ≡ text.old) }
 {
-    let table = keeping::check_table(columns, rows, true, condition, text.len(), used);
-    if let Checked::Refused(r) = table {
-        return Written::Refused(r);
-    }
+    keeping::check_table(columns, rows, true, condition, text.len(), used)?;
     let width = columns.len() / 2;
     let n = rows.len() / width;
     let mut marks = [0u64; 4096];
-    match marking::mark_table(condition, rows, width, n, text, used, &mut marks) {
-        Marked::Refused(r) => Written::Refused(r),
-        Marked::Rows(k) => keeping::write_kept(rows, width, n, &rows[..0], &marks, 0, n - k, out),
-    }
+    let k = marking::mark_table(condition, rows, width, n, text, used, &mut marks)?;
+    keeping::write_kept(rows, width, n, &rows[..0], &marks, 0, n - k, out)
 }

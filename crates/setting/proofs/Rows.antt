@@ -1,4 +1,4 @@
--- A row written by its mark, and all rows one after another: a turn of the loop, its end, and how many words they take. Assumes nothing.
+-- A row written by its mark, and all rows one after another: a turn of the loop, how many words they take, and a short output. Assumes nothing.
 use mathlib.Core.Path.{◌≡◌, refl, sym, ap, subst, ◌∙◌}
 use mathlib.Core.Bool.{Bool, true, false, cond}
 use mathlib.Core.List.{List, ◌++◌}
@@ -7,13 +7,12 @@ use native.Mathlib.Omega.{arith}
 use lib.ListN.{length, take, drop, get_or}
 use lib.Seq.{take_at, drop_at, length-take-le}
 use lib.Dec.{eqb}
-use borrow.Author.Tests.{eq-eqb, ne_eqb, lt-ltb, le-ltb}
+use borrow.Author.Tests.{eq-eqb, lt-ltb}
 use Rattle.refusals.specs.declared.Refusal.TheVariants.{OutputShort}
 use Rattle.slices.specs.Splice.{piece, splice, Wrote}
 use Rattle.slices.proofs.Splice.{wrote_kept}
 use Rattle.slices.proofs.Pieces.{piece_length}
 use Rattle.writing.specs.Writing.{WrittenIs}
-use Rattle.writing.specs.declared.Written.TheVariants.{Count, Refused}
 use Rattle.writing.proofs.Answers.{refused_is}
 use Rattle.marking.specs.RowList.{kept_from, words_of}
 use Rattle.marking.specs.Marks.{part}
@@ -24,6 +23,7 @@ use Rattle.checks.specs.Check.{short_stop}
 use Rattle.setting.specs.Sets.{applied}
 use Rattle.setting.specs.Asked.{Within, row_after, all_words, AllAsked}
 use Rattle.setting.proofs.Setting.{applied_length}
+use Rattle.std.specs.Prelude.{Err}
 
 -- ---- one row
 
@@ -41,15 +41,7 @@ module _ {out row e : List ℕ} {at p : ℕ} (w : Wrote out at row p e) (sets : 
   lent : piece at (p - at) e ≡ row
   lent = rw (from, size) (take_at row (drop (at + length row) out) (length row) refl)
 
-  -- the sets' columns are within that part
-  pub row_asks : Within (length row) sets → Within (length (piece at (p - at) e)) sets
-  row_asks h = rw lent h
-
   module _ (mark : ℕ) where
-    -- a row that is left as it is
-    pub row_plain : (mark ≡ 1 → ⊥) → Wrote out at (row_after sets mark row) p e
-    row_plain n = rw (ne_eqb mark 1 n) w
-
     -- a row that was lent and set
     pub row_set : mark ≡ 1 → (new : List ℕ) → new ≡ applied sets (piece at (p - at) e)
         → Wrote out at (row_after sets mark row) p (take at e ++ (new ++ drop (p - at) (drop at e)))
@@ -113,12 +105,7 @@ module _ {sets rows marks : List ℕ} {width n : ℕ} (A : AllAsked sets rows ma
       turn_wrote p out' w =
           writing_turn _ (λ j. true) n d out at i W all_room h refl p out' (subst (λ r. Wrote out at (row_after sets (get_or marks i 0) r) p out') (row_read_lem rows width i) w)
 
-    -- the rows are written
-    pub all_written : (p : ℕ) (after : List ℕ) → Wrote d 0 (all_words sets rows width n marks) p after
-        → WrittenIs d after (Count n) (short_stop (length d) (length (all_words sets rows width n marks))) n (all_words sets rows width n marks)
-    all_written p after w = rw (le-ltb (length d) (length (all_words sets rows width n marks)) all_room) (record { says = refl; output = w.list; room = λ e. all_room })
-
   -- the output is short
   pub all_short : (d : List ℕ) → length d < length rows
-      → WrittenIs d d (Refused (OutputShort (length rows))) (short_stop (length d) (length (all_words sets rows width n marks))) n (all_words sets rows width n marks)
+      → WrittenIs d d (Err (OutputShort (length rows))) (short_stop (length d) (length (all_words sets rows width n marks))) n (all_words sets rows width n marks)
   all_short d h = refused_is d _ n _ (OutputShort (length rows)) (rw (all_length, lt-ltb (length d) (length rows) h))

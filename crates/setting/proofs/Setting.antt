@@ -1,6 +1,6 @@
 -- The sets from one on: what one of them is refused with, a turn of a loop over them, and its end. Assumes nothing.
 use mathlib.Core.Path.{◌≡◌, refl, sym, ap, subst, ◌∙◌}
-use mathlib.Core.Bool.{Bool, true, false, not}
+use mathlib.Core.Bool.{Bool, not}
 use mathlib.Core.List.{List, [], ◌∷◌}
 use Prim.Native.Nat.{ℕ, suc, ◌+◌, ◌*◌, ◌/◌, ◌≤◌, ◌<◌}
 use native.Mathlib.Omega.{arith}
@@ -9,11 +9,9 @@ use lib.ListN.{length, drop, set, get_or, length-drop, length-set}
 use lib.Dec.{leb}
 use borrow.Author.Tests.{le-leb, lt-leb, leb-false}
 use Rattle.slices.proofs.Pieces.{pair_drop}
-use Rattle.refusals.specs.Stop.{never, stop, stop_if, checked_of, or_else}
+use Rattle.refusals.specs.Stop.{never, stop, stop_if, stop_of, or_else}
 use Rattle.refusals.specs.declared.Refusal.{Refusal}
-use Rattle.refusals.specs.declared.Checked.{Checked}
-use Rattle.refusals.specs.declared.Checked.TheVariants.{Sound, Refused}
-use Rattle.refusals.proofs.First.{refused_first, told_sound, never_both, not_stopped, last_of_four}
+use Rattle.refusals.proofs.First.{first_stops, nothing_behind, never_both, not_stopped, last_of_four}
 use Rattle.cells.specs.Cell.{cell_stop, ref_of, Inside}
 use Rattle.cells.specs.declared.ValueRef.{ValueRef}
 use Rattle.cells.proofs.Stops.{well_formed, well_inside}
@@ -31,28 +29,24 @@ module _ (used : ℕ) (stored columns : List ℕ) (index c cell : ℕ) where
   unfolding set_stop
   set_column h = rw (le-leb (column_count columns) c h)
 
-  module _ (h : c < column_count columns) (a : Checked) (f : checked_of a ≡ cell_stop used cell index) where
+  module _ (h : c < column_count columns) where
     -- its cell is refused
-    pub set_cell : (r : Refusal) → a ≡ Refused r → checked_of a ≡ set_stop used stored columns index c cell
+    pub set_cell : (r : Refusal) → stop_of r ≡ cell_stop used cell index → stop_of r ≡ set_stop used stored columns index c cell
     unfolding set_stop
-    set_cell r e = rw (lt-leb (column_count columns) c h) (refused_first a _ _ r e f)
+    set_cell r e = rw (lt-leb (column_count columns) c h) (sym (first_stops (cell_stop used cell index) _ r (sym e)))
 
-    module _ (e : a ≡ Sound) (long : length stored ≡ used) (v : ValueRef) (is : v ≡ ref_of cell) (x : Bool)
+    module _ (e : never ≡ cell_stop used cell index) (long : length stored ≡ used) (v : ValueRef) (is : v ≡ ref_of cell) (x : Bool)
         (g : (s : List ℕ) → Inside (length s) v → x ≡ is_valid_value (get_or columns (2 * c + 1) 0) (to_value s v)) where
       -- what the code asks of the cell in its column is what the definition asks
       valid : is_valid_value (get_or columns (2 * c + 1) 0) (value_of stored cell) ≡ x
       valid =
-          let i : Inside (length stored) v = rw (long, is) (well_inside used cell (well_formed used cell index (told_sound a _ e f))) in
+          let i : Inside (length stored) v = rw (long, is) (well_inside used cell (well_formed used cell index (sym e))) in
           ap (λ w. is_valid_value (get_or columns (2 * c + 1) 0) (to_value stored w)) (sym is) ∙ sym (g stored i)
 
-      -- its cell isn't valid in its column, or all is well
-      pub set_invalid : not x ≡ true → stop 13 index ≡ set_stop used stored columns index c cell
+      -- its cell is valid in its column, or it isn't
+      pub set_valid : stop_if (not x) 13 index ≡ set_stop used stored columns index c cell
       unfolding set_stop
-      set_invalid n = rw (lt-leb (column_count columns) c h, told_sound a _ e f, valid, n)
-
-      pub set_sound : not x ≡ false → never ≡ set_stop used stored columns index c cell
-      unfolding set_stop
-      set_sound n = rw (lt-leb (column_count columns) c h, told_sound a _ e f, valid, n)
+      set_valid = rw (lt-leb (column_count columns) c h, ← e, valid) (sym (nothing_behind (stop_if (not x) 13 index)))
 
 -- ---- a turn and the end of a loop over the sets
 
@@ -111,10 +105,6 @@ pub record Applying (sets start row : List ℕ) (k : ℕ) : Type 0 where
   pub long : length row ≡ length start
   pub within : Within (length start) (drop (2 * k) sets)
   pub list : applied (drop (2 * k) sets) row ≡ applied sets start
-
--- none applied yet
-pub applying_start : (sets row : List ℕ) → Within (length row) sets → Applying sets row row 0
-applying_start sets row w = record { long = refl; within = w; list = refl }
 
 module _ {sets start row : List ℕ} {k : ℕ} (A : Applying sets start row k) where
   module _ (h : k < length sets / 2) where

@@ -9,7 +9,7 @@ ghost use Rattle.setting.specs.Sets.{are_sets, sets_stop, applied};
 ghost use Rattle.setting.specs.Asked.{set_stop, Within, row_after};
 
 use cells::ValueRef;
-use refusals::{Checked, Refusal};
+use refusals::Refusal;
 
 // Whether words are a column number and a cell a set, at most 64 sets.
 pub fn are_sets(sets: &[u64]) -> bool
@@ -22,38 +22,36 @@ pub fn are_sets(sets: &[u64]) -> bool
 }
 
 // What is wrong with one set, whatever text the mark bounds.
-pub fn check_set(columns: &[u64], column: u64, cell: u64, used: usize, place: usize) -> Checked
+pub fn check_set(
+    columns: &[u64],
+    column: u64,
+    cell: u64,
+    used: usize,
+    place: usize,
+) -> Result<(), Refusal>
     requires { length columns.now ≡ 2 * column_count columns.now }
     ensures { (stored : List ℕ) → length stored ≡ used → checked_of result ≡ set_stop used stored columns.now place column cell }
 {
     if (columns.len() / 2) as u64 <= column {
-        return Checked::Refused(Refusal::NoSuchColumn(place));
+        return Err(Refusal::NoSuchColumn(place));
     }
-    let checked = cells::check_cell(cell, used, place);
-    let Checked::Sound = checked else {
-        return checked;
-    };
+    cells::check_cell(cell, used, place)?;
     let rule = columns[2 * column as usize + 1];
-    if !rules::is_valid_value(rule, ValueRef::from_word(cell)) {
-        return Checked::Refused(Refusal::NotValid(place));
+    if !rules::is_valid_value(rule, ValueRef::from(cell)) {
+        return Err(Refusal::NotValid(place));
     }
-    Checked::Sound
+    Ok(())
 }
 
 // What is wrong with the sets in order.
-pub fn check_sets(columns: &[u64], sets: &[u64], used: usize) -> Checked
+pub fn check_sets(columns: &[u64], sets: &[u64], used: usize) -> Result<(), Refusal>
     requires { length columns.now ≡ 2 * column_count columns.now }
     ensures { (stored : List ℕ) → length stored ≡ used → checked_of result ≡ sets_stop used stored columns.now 0 sets.now }
 {
-    let mut k: usize = 0;
-    while k < sets.len() / 2 {
-        let checked = check_set(columns, sets[2 * k], sets[2 * k + 1], used, k);
-        let Checked::Sound = checked else {
-            return checked;
-        };
-        k += 1;
+    for k in 0..sets.len() / 2 {
+        check_set(columns, sets[2 * k], sets[2 * k + 1], used, k)?;
     }
-    Checked::Sound
+    Ok(())
 }
 
 // Applies the sets to a row in order.
@@ -61,10 +59,8 @@ pub fn apply_sets(sets: &[u64], row: &mut [u64])
     requires { Within (length row.old) sets.now }
     ensures { row.new ≡ applied sets.now row.old }
 {
-    let mut k: usize = 0;
-    while k < sets.len() / 2 {
+    for k in 0..sets.len() / 2 {
         row[sets[2 * k] as usize] = sets[2 * k + 1];
-        k += 1;
     }
 }
 
@@ -73,7 +69,7 @@ pub fn write_row(row: &[u64], sets: &[u64], mark: u64, out: &mut [u64], at: usiz
     requires { Within (length row.now) sets.now × (at + length row.now ≤ length out.old) }
     ensures { Wrote out.old at (row_after sets.now mark row.now) result out.new }
 {
-    let end = slices::copy_words(row, out, at);
+    let end = slices::copy(row, out, at);
     if mark != 1 {
         return end;
     }

@@ -1,7 +1,7 @@
 -- The laws of the walk over the table of nodes: what a tree asks of its operands, and how folded operands make the folded tree. Assumes nothing.
 use mathlib.Core.Path.{◌≡◌, refl, sym, ap, ap₂, subst, ◌∙◌}
 use mathlib.Core.List.{List, [], ◌∷◌, ◌++◌, append_assoc}
-use Prim.Native.Nat.{ℕ, ◌+◌, ◌-◌, ◌^◌, ◌≤◌, ◌<◌}
+use Prim.Native.Nat.{ℕ, ◌+◌, ◌-◌, ◌≤◌, ◌<◌}
 use native.Mathlib.Omega.{arith}
 use lib.ListN.{length, take, get_or, length-append}
 use lib.Seq.{length-take-le}
@@ -34,21 +34,21 @@ use Rattle.postfix.specs.Postfix.{leaf_bytes, bytes_of, width}
 use Rattle.postfix.proofs.Reading.{width_size, leaf_width}
 use Rattle.replacing.specs.Fold.{Folding, and_fold, fold, fold_one, fold_two}
 use Rattle.replacing.specs.Walk.{AllHeld, root, Rooted, Stored, Stands, StandTwo, Says, TwoAsks, FoldAsks, Gives}
-use Rattle.replacing.specs.declared.Part.{Part}
-use Rattle.replacing.specs.declared.Part.TheVariants.{Folded, Refused}
 use Rattle.shortening.proofs.Growing.{Grown, grown, held_higher}
 use Rattle.replacing.proofs.Standing.{root_well}
+use Rattle.std.specs.Prelude.{Result, Ok, Err}
+use Rattle.replacing.specs.declared.Folded.{Folded}
 
 -- ---- the walk
 
 -- a refusal is handed on
-handed_on_lem : (front : List ℕ) (n m top : ℕ) (before after out : List ℕ) (r : Part) (x : Refusal) (f : Folding) (g : Tree ℕ → List ℕ → Folding) → r ≡ Refused x
+handed_on_lem : (front : List ℕ) (n m top : ℕ) (before after out : List ℕ) (r : Result Folded Refusal) (x : Refusal) (f : Folding) (g : Tree ℕ → List ℕ → Folding) → r ≡ Err x
     → Gives front n top before after out r f → Gives front m top before after out r (and_fold f g)
 handed_on_lem front n m top before after out r x f g e h =
-    let s : Says front n after out (Refused x) f = subst (λ y. Says front n after out y f) e h.says in
+    let s : Says front n after out (Err x) f = subst (λ y. Says front n after out y f) e h.says in
     record { kept = h.kept; says = subst (λ y. Says front m after out y (and_fold f g)) (sym e) (ap (λ y. and_fold y g) s) }
 
-module _ (R : Rules) (used top depth k at end : ℕ) (nodes text out : List ℕ) (t : Tree ℕ) (A : FoldAsks R used top depth k at end nodes text out t) where
+module _ {R : Rules} {used top depth k at end : ℕ} {nodes text out : List ℕ} {t : Tree ℕ} (A : FoldAsks R used top depth k at end nodes text out t) where
   abbrev pub s₀ : List ℕ
   s₀ = take top text
 
@@ -62,7 +62,7 @@ module _ (R : Rules) (used top depth k at end : ℕ) (nodes text out : List ℕ)
   ahead = sym (length-take-le end out (omega (arith, A.space)))
 
   -- a leaf
-  module _ (w : ℕ) (e : node_of (get_or nodes k 0) ≡ Leaf w) where
+  module _ {w : ℕ} (e : node_of (get_or nodes k 0) ≡ Leaf w) where
     -- the tree is the leaf
     is_leaf : (t ≡ leaf w) × LeafHeld used w
     is_leaf = leaf_at used k nodes t w A.denotes e
@@ -71,12 +71,8 @@ module _ (R : Rules) (used top depth k at end : ℕ) (nodes text out : List ℕ)
     pub leaf_space : end + length (leaf_bytes w) ≤ length out
     leaf_space = omega (arith, leaf_size is_leaf.0, A.space, leaf_width w)
 
-    -- the offset after them is one of the condition's
-    pub leaf_early : (after : ℕ) → after ≡ end + length (leaf_bytes w) → at + (after - end) < 2 ^ 64
-    leaf_early after p = omega (arith, leaf_size is_leaf.0, A.early, leaf_width w)
-
     -- a leaf is folded already
-    pub leaf_gives : (after : ℕ) (out' : List ℕ) → Wrote out end (leaf_bytes w) after out' → Gives front (at + width t) top text text out' (Folded w after top (at + (after - end))) (fold R at t s₀)
+    pub leaf_gives : (after : ℕ) (out' : List ℕ) → Wrote out end (leaf_bytes w) after out' → Gives front (at + width t) top text text out' (Ok (record { word = w; end = after; top = top; next = at + (after - end) })) (fold R at t s₀)
     unfolding fold bytes_of AllHeld
     leaf_gives after out' wr = record {
       kept = refl;
@@ -97,7 +93,7 @@ module _ (R : Rules) (used top depth k at end : ℕ) (nodes text out : List ℕ)
     }
 
   -- a unary operator
-  module _ (op : ℕ) (e : node_of (get_or nodes k 0) ≡ One op) where
+  module _ {op : ℕ} (e : node_of (get_or nodes k 0) ≡ One op) where
     abbrev pub one : OneAt used k nodes op t
     one = one_at used k nodes t op A.denotes e
 
@@ -124,13 +120,18 @@ module _ (R : Rules) (used top depth k at end : ℕ) (nodes text out : List ℕ)
     unfolding fold
     one_fold = ap (λ y. fold R at y s₀) one.whole
 
-    module _ (text₁ out₁ : List ℕ) (r : Part) (g : Gives front (at + width a) top text text₁ out₁ r (fold R at a s₀)) where
-      pub one_refused : (x : Refusal) → r ≡ Refused x → Gives front (at + width t) top text text₁ out₁ r (fold R at t s₀)
-      one_refused x p = subst (λ f. Gives front (at + width t) top text text₁ out₁ r f) (sym one_fold) (handed_on_lem front _ _ top text text₁ out₁ r x _ _ p g)
+    -- the operand was folded, or refused
+    module _ {text₁ out₁ : List ℕ} {r : Result Folded Refusal}
+        (f : (v : ℕ) (y : Tree ℕ) → FoldAsks R v top (depth - 1) (k - 1) at end nodes text out y → Gives front (at + width y) top text text₁ out₁ r (fold R at y s₀)) where
+      gave : Gives front (at + width a) top text text₁ out₁ r (fold R at a s₀)
+      gave = f used a one_asks
 
-      module _ (word after u place : ℕ) (p : r ≡ Folded word after u place) (keep : length out₁ ≡ length out) where
-        said : Says front (at + width a) text₁ out₁ (Folded word after u place) (fold R at a s₀)
-        said = subst (λ y. Says front (at + width a) text₁ out₁ y (fold R at a s₀)) p g.says
+      pub one_refused : (x : Refusal) → r ≡ Err x → Gives front (at + width t) top text text₁ out₁ r (fold R at t s₀)
+      one_refused x p = subst (λ f. Gives front (at + width t) top text text₁ out₁ r f) (sym one_fold) (handed_on_lem front _ _ top text text₁ out₁ r x _ _ p gave)
+
+      module _ {word after u place : ℕ} (p : r ≡ Ok (record { word = word; end = after; top = u; next = place })) (keep : length out₁ ≡ length out) where
+        said : Says front (at + width a) text₁ out₁ (Ok (record { word = word; end = after; top = u; next = place })) (fold R at a s₀)
+        said = subst (λ y. Says front (at + width a) text₁ out₁ y (fold R at a s₀)) p gave.says
 
         grew : Grown a s₀ said.0 said.1
         grew = grown R A.short at a said.0 s₀ said.1 said.2
@@ -149,17 +150,17 @@ module _ (R : Rules) (used top depth k at end : ℕ) (nodes text out : List ℕ)
         small_text : length said.1 ≤ 65536
         small_text = omega (arith, grew.few, long, A.room, A.small, one_joins one)
 
-        pub one_gives : (q : Part) (out₂ : List ℕ)
+        pub one_gives : (q : Result Folded Refusal) (out₂ : List ℕ)
             → ((x : Tree ℕ) (s text front : List ℕ) → Stands front x s word after out₁ → Stored text s u → length s ≤ 65536 → end ≡ length front → Says front (place + 1) text out₂ q (fold_one R place op x s))
             → Gives front (at + width t) top text text₁ out₂ q (fold R at t s₀)
         unfolding bytes_of
         one_gives q out₂ h =
             let w : at + width t ≡ place + 1 = ap (λ y. at + width y) one.whole ∙ ap (λ n. at + n) (length-append (bytes_of a) (op ∷ [])) ∙ (let z : place ≡ at + width a = said.5 in omega arith) in
             let f : fold R at t s₀ ≡ fold_one R place op said.0 said.1 = one_fold ∙ ap (λ y. and_fold y (λ x s. fold_one R (at + width a) op x s)) said.2 ∙ ap (λ n. fold_one R n op said.0 said.1) (sym said.5) in
-            record { kept = g.kept; says = rw (w, f) (h said.0 said.1 text₁ front said.3 said.4 small_text ahead) }
+            record { kept = gave.kept; says = rw (w, f) (h said.0 said.1 text₁ front said.3 said.4 small_text ahead) }
 
   -- a two-sided operator
-  module _ (op l : ℕ) (e : node_of (get_or nodes k 0) ≡ Two op l) where
+  module _ {op l : ℕ} (e : node_of (get_or nodes k 0) ≡ Two op l) where
     abbrev pub two : TwoAt used k nodes op l t
     two = two_at used k nodes t op l A.denotes e
 
@@ -189,13 +190,18 @@ module _ (R : Rules) (used top depth k at end : ℕ) (nodes text out : List ℕ)
     unfolding fold
     two_fold = ap (λ y. fold R at y s₀) two.whole
 
-    module _ (text₁ out₁ : List ℕ) (r : Part) (g : Gives front (at + width aₗ) top text text₁ out₁ r (fold R at aₗ s₀)) where
-      pub left_refused : (x : Refusal) → r ≡ Refused x → Gives front (at + width t) top text text₁ out₁ r (fold R at t s₀)
-      left_refused x p = subst (λ f. Gives front (at + width t) top text text₁ out₁ r f) (sym two_fold) (handed_on_lem front _ _ top text text₁ out₁ r x _ _ p g)
+    -- the left operand was folded, or refused
+    module _ {text₁ out₁ : List ℕ} {r : Result Folded Refusal}
+        (f : (v : ℕ) (y : Tree ℕ) → FoldAsks R v top (depth - 1) l at end nodes text out y → Gives front (at + width y) top text text₁ out₁ r (fold R at y s₀)) where
+      left_gave : Gives front (at + width aₗ) top text text₁ out₁ r (fold R at aₗ s₀)
+      left_gave = f used aₗ left_asks
 
-      module _ (left middle u next : ℕ) (p : r ≡ Folded left middle u next) (keep : length out₁ ≡ length out) (keep-text : length text₁ ≡ length text) where
-        left_said : Says front (at + width aₗ) text₁ out₁ (Folded left middle u next) (fold R at aₗ s₀)
-        left_said = subst (λ y. Says front (at + width aₗ) text₁ out₁ y (fold R at aₗ s₀)) p g.says
+      pub left_refused : (x : Refusal) → r ≡ Err x → Gives front (at + width t) top text text₁ out₁ r (fold R at t s₀)
+      left_refused x p = subst (λ f. Gives front (at + width t) top text text₁ out₁ r f) (sym two_fold) (handed_on_lem front _ _ top text text₁ out₁ r x _ _ p left_gave)
+
+      module _ {left middle u next : ℕ} (p : r ≡ Ok (record { word = left; end = middle; top = u; next = next })) (keep : length out₁ ≡ length out) (keep-text : length text₁ ≡ length text) where
+        left_said : Says front (at + width aₗ) text₁ out₁ (Ok (record { word = left; end = middle; top = u; next = next })) (fold R at aₗ s₀)
+        left_said = subst (λ y. Says front (at + width aₗ) text₁ out₁ y (fold R at aₗ s₀)) p left_gave.says
 
         left_grew : Grown aₗ s₀ left_said.0 left_said.1
         left_grew = grown R A.short at aₗ left_said.0 s₀ left_said.1 left_said.2
@@ -219,9 +225,14 @@ module _ (R : Rules) (used top depth k at end : ℕ) (nodes text out : List ℕ)
           early = omega (arith, A.early, two_size two, left_said.5, width_size aₗ);
         }
 
-        module _ (text₂ out₂ : List ℕ) (r₂ : Part) (g₂ : Gives (take middle out₁) (next + width aᵣ) u text₁ text₂ out₂ r₂ (fold R next aᵣ (take u text₁))) where
+        -- the right operand was folded, or refused
+        module _ {text₂ out₂ : List ℕ} {r₂ : Result Folded Refusal}
+            (f₂ : (n : ℕ) (y : Tree ℕ) → FoldAsks R n u (depth - 1) (k - 1) next middle nodes text₁ out₁ y → Gives (take middle out₁) (next + width y) u text₁ text₂ out₂ r₂ (fold R next y (take u text₁))) where
+          right_gave : Gives (take middle out₁) (next + width aᵣ) u text₁ text₂ out₂ r₂ (fold R next aᵣ (take u text₁))
+          right_gave = f₂ used aᵣ right_asks
+
           kept_both : take top text₂ ≡ take top text
-          kept_both = kept_trans text text₁ text₂ top u rises g.kept g₂.kept
+          kept_both = kept_trans text text₁ text₂ top u rises left_gave.kept right_gave.kept
 
           -- the right operand's folding, as the definition has it
           right_fold : fold R next aᵣ (take u text₁) ≡ fold R (at + width aₗ) aᵣ left_said.1
@@ -232,14 +243,14 @@ module _ (R : Rules) (used top depth k at end : ℕ) (nodes text out : List ℕ)
               two_fold ∙ ap (λ y. and_fold y (λ x s. and_fold (fold R (at + width aₗ) aᵣ s) (λ y s'. fold_two R (at + width aₗ + width aᵣ) op x y s'))) left_said.2
               ∙ ap (λ y. and_fold y (λ y s'. fold_two R (at + width aₗ + width aᵣ) op left_said.0 y s')) (sym right_fold ∙ q)
 
-          pub right_refused : (x : Refusal) → r₂ ≡ Refused x → Gives front (at + width t) top text text₂ out₂ r₂ (fold R at t s₀)
+          pub right_refused : (x : Refusal) → r₂ ≡ Err x → Gives front (at + width t) top text text₂ out₂ r₂ (fold R at t s₀)
           right_refused x q =
-              let s : Says (take middle out₁) (next + width aᵣ) text₂ out₂ (Refused x) (fold R next aᵣ (take u text₁)) = subst (λ y. Says (take middle out₁) (next + width aᵣ) text₂ out₂ y (fold R next aᵣ (take u text₁))) q g₂.says in
+              let s : Says (take middle out₁) (next + width aᵣ) text₂ out₂ (Err x) (fold R next aᵣ (take u text₁)) = subst (λ y. Says (take middle out₁) (next + width aᵣ) text₂ out₂ y (fold R next aᵣ (take u text₁))) q right_gave.says in
               record { kept = kept_both; says = subst (λ y. Says front (at + width t) text₂ out₂ y (fold R at t s₀)) (sym q) (both_fold _ s) }
 
-          module _ (right after v place : ℕ) (q : r₂ ≡ Folded right after v place) (keep₂ : length out₂ ≡ length out₁) (keep-text₂ : length text₂ ≡ length text₁) where
-            right_said : Says (take middle out₁) (next + width aᵣ) text₂ out₂ (Folded right after v place) (fold R next aᵣ (take u text₁))
-            right_said = subst (λ y. Says (take middle out₁) (next + width aᵣ) text₂ out₂ y (fold R next aᵣ (take u text₁))) q g₂.says
+          module _ {right after v place : ℕ} (q : r₂ ≡ Ok (record { word = right; end = after; top = v; next = place })) (keep₂ : length out₂ ≡ length out₁) (keep-text₂ : length text₂ ≡ length text₁) where
+            right_said : Says (take middle out₁) (next + width aᵣ) text₂ out₂ (Ok (record { word = right; end = after; top = v; next = place })) (fold R next aᵣ (take u text₁))
+            right_said = subst (λ y. Says (take middle out₁) (next + width aᵣ) text₂ out₂ y (fold R next aᵣ (take u text₁))) q right_gave.says
 
             right_grew : Grown aᵣ (take u text₁) right_said.0 right_said.1
             right_grew = grown R A.short next aᵣ right_said.0 (take u text₁) right_said.1 right_said.2
@@ -286,7 +297,7 @@ module _ (R : Rules) (used top depth k at end : ℕ) (nodes text out : List ℕ)
                 well : (x : Tree ℕ) (w : ℕ) → w ≡ root x → Rooted x → kind_of w < 3 → AllHeld (length right_said.1) x → WellFormed v w
                 well x w m o h d = subst (λ n. WellFormed n w) (sym right_said.4.long) (subst (WellFormed (length right_said.1)) (sym m) (root_well (length right_said.1) x o (subst (λ y. kind_of y < 3) m h) d))
 
-            pub two_gives : (z : Part) (text₃ out₃ : List ℕ)
+            pub two_gives : (z : Result Folded Refusal) (text₃ out₃ : List ℕ)
                 → ((x y : Tree ℕ) (s front : List ℕ) → StandTwo front x y s left right after out₂ → Stored text₂ s v → end ≡ length front → Gives front (place + 1) v text₂ text₃ out₃ z (fold_two R place op x y s))
                 → Gives front (at + width t) top text text₃ out₃ z (fold R at t s₀)
             unfolding bytes_of

@@ -1,41 +1,35 @@
--- Laws of comparing two texts: from an index on, and as an order. Assumes nothing.
-use Rattle.std.proofs.Common.{◌≡◌, ℕ, suc, ◌+◌, ◌-◌, ◌<◌, ◌≤◌, Bool, true, false, eqb, ltb, List, [], ◌∷◌, length, get_or, drop, sym, refl, ap, ◌∙◌, subst, ap₂, le_antisymm, add-one, arith, drop_of_length-le, drop-cons, ltb-false, le-ltb, lt-ltb, eq-eqb, eqb-true}
+-- Laws of comparing two texts: as an order, and from the end. Assumes nothing.
+use Rattle.std.proofs.Common.{◌≡◌, ℕ, suc, ◌-◌, ◌<◌, ◌≤◌, Bool, true, false, eqb, ltb, List, [], ◌∷◌, length, get_or, drop, sym, refl, ap, ◌∙◌, subst, ap₂, le_antisymm, arith, drop_of_length-le, drop-cons, ltb-false, ltb-true, le-ltb, eq-eqb, eqb-true}
+use Rattle.std.specs.Ordering.{nat_cmp, ordering_then}
+use Rattle.std.specs.Cmp.{nat_cmp_is}
+use Rattle.std.specs.Cmp.Lexicographic.{slice_cmp}
 use Rattle.slices.specs.Bytes.{by_bytes, by_tests, same_bytes, both, is_equal}
-use Rattle.slices.specs.declared.Ordering.{Ordering}
-use Rattle.slices.specs.declared.Ordering.TheVariants.{Less, Equal, Greater}
+use Rattle.std.specs.declared.cmp.Ordering.{Ordering}
+use Rattle.std.specs.declared.cmp.Ordering.TheVariants.{Less, Equal, Greater}
 
--- ---- from an index on
+-- ---- std's order of slices
 
--- the order of what is left of two texts from an index on
-abbrev pub rest : List ℕ → List ℕ → ℕ → Ordering
-rest a b i = by_bytes (drop i a) (drop i b)
+-- of two bytes
+nat_order : (a b : ℕ) → nat_cmp a b ≡ by_tests (ltb a b) (ltb b a) Equal
+nat_order a b = sym (go (ltb a b) (ltb b a) (ltb-true a b) (ltb-false a b) (ltb-true b a) (ltb-false b a))
+  where
+    go : (f g : Bool) → (f ≡ true → a < b) → (f ≡ false → b ≤ a) → (g ≡ true → b < a) → (g ≡ false → a ≤ b) → by_tests f g Equal ≡ nat_cmp a b
+    go true g h k l m = nat_cmp_is a b Less (h refl)
+    go false true h k l m = nat_cmp_is a b Greater (l refl)
+    go false false h k l m = nat_cmp_is a b Equal (le_antisymm (m refl) (k refl))
 
-module _ (a b : List ℕ) (i : ℕ) where
-  pub right_ends : i < length a → length b ≤ i → rest a b i ≡ Greater
-  unfolding by_bytes
-  right_ends h k = rw (drop-cons a i 0 h, drop_of_length-le b k)
-
-  pub left_ends : length a ≤ i → i < length b → rest a b i ≡ Less
-  unfolding by_bytes
-  left_ends h k = rw (drop_of_length-le a h, drop-cons b i 0 k)
-
-  pub both_end : length a ≤ i → length b ≤ i → rest a b i ≡ Equal
-  unfolding by_bytes
-  both_end h k = rw (drop_of_length-le a h, drop_of_length-le b k)
-
-  module _ (h : i < length a) (k : i < length b) where
-    here : rest a b i ≡ by_tests (ltb (get_or a i 0) (get_or b i 0)) (ltb (get_or b i 0) (get_or a i 0)) (rest a b (i + 1))
-    unfolding by_bytes
-    here = rw (drop-cons a i 0 h, drop-cons b i 0 k, add-one i)
-
-    pub less_here : get_or a i 0 < get_or b i 0 → rest a b i ≡ Less
-    less_here l = here ∙ rw (lt-ltb _ _ l)
-
-    pub greater_here : get_or b i 0 < get_or a i 0 → rest a b i ≡ Greater
-    greater_here l = here ∙ rw (le-ltb (get_or a i 0) (get_or b i 0) (omega arith), lt-ltb _ _ l)
-
-    pub same_here : get_or b i 0 ≤ get_or a i 0 → get_or a i 0 ≤ get_or b i 0 → rest a b i ≡ rest a b (i + 1)
-    same_here l m = here ∙ rw (le-ltb (get_or a i 0) (get_or b i 0) l, le-ltb (get_or b i 0) (get_or a i 0) m)
+-- is that of texts
+pub slice_order : (a b : List ℕ) → slice_cmp nat_cmp a b ≡ by_bytes a b
+unfolding by_bytes
+slice_order [] [] = refl
+slice_order [] (b ∷ t) = refl
+slice_order (a ∷ s) [] = refl
+slice_order (a ∷ s) (b ∷ t) = rw (nat_order a b) (go (ltb a b) (ltb b a) (slice_order s t))
+  where
+    go : (f g : Bool) → slice_cmp nat_cmp s t ≡ by_bytes s t → ordering_then (by_tests f g Equal) (slice_cmp nat_cmp s t) ≡ by_tests f g (by_bytes s t)
+    go true g e = refl
+    go false true e = refl
+    go false false e = e
 
 -- ---- equal texts
 

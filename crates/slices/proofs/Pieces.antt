@@ -1,8 +1,9 @@
 -- Laws of a part of a list. Assumes nothing.
-use Rattle.std.proofs.Common.{◌≡◌, ℕ, zero, suc, ◌+◌, ◌-◌, ◌*◌, ◌/◌, ◌<◌, ◌≤◌, List, [], ◌∷◌, length, get_or, take, drop, sym, refl, ap, ◌∙◌, arith, length-drop, length-take, drop-cons, take-take}
+use Rattle.std.proofs.Common.{◌≡◌, ℕ, zero, suc, ◌+◌, ◌-◌, ◌*◌, ◌/◌, ◌<◌, ◌≤◌, List, [], ◌∷◌, length, get_or, take, drop, sym, refl, ap, ◌∙◌, append_assoc, arith, length-drop, length-take, drop-cons, take-take}
 use native.Mathlib.Nat.{sub-zero, zero-sub, suc-sub-suc}
 use lib.Seq.{take-nil}
-use Rattle.slices.specs.Splice.{piece}
+use Rattle.std.specs.List.{copy_within}
+use Rattle.slices.specs.Splice.{piece, splice, Wrote}
 
 module _ {A : Type 0} where
   -- a front cut off: a part of a front is a front of the part
@@ -23,6 +24,14 @@ module _ {A : Type 0} where
   -- two lists with one front have the same parts there
   pub piece_front : (m s n : ℕ) (k l : List A) → s + n ≤ m → take m k ≡ take m l → piece s n k ≡ piece s n l
   piece_front m s n k l h e = sym (piece_take m s n k h) ∙ ap (piece s n) e ∙ piece_take m s n l h
+
+  -- after `copy_within`
+  pub wrote_within : {d e : List A} (from n to : ℕ) → from + n ≤ to → to + n ≤ length d → e ≡ copy_within d from (from + n) to → Wrote d to (piece from n d) (to + n) e
+  unfolding splice
+  wrote_within {d} {e} from n to h k f =
+      let long : length (piece from n d) ≡ n = piece_length from n d (omega arith) in
+      let q : from + n - from ≡ n = omega arith in
+      record { room = rw long k; place = rw long; list = rw (f, q, long, append_assoc) }
 
 -- a front is as long as it is
 pub take_own : (n : ℕ) (l : List ℕ) → take (length (take n l)) l ≡ take n l

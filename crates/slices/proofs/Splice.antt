@@ -1,6 +1,7 @@
 -- Laws of a list written over another, for any element. Assumes nothing.
-use Rattle.std.proofs.Common.{◌≡◌, ℕ, suc, ◌+◌, ◌<◌, ◌≤◌, List, [], ◌∷◌, ◌++◌, length, get_or, take, drop, set, sym, refl, ap, ◌∙◌, append_assoc, add-zero, add_assoc, add-suc, suc-add, zero-add, add-one, arith, length-append, length-drop, length-set, take-append-drop, drop_of_length-le, length-take, length-take-le, drop-cons, take-take, drop-drop, take-suc-set, take_at, drop-set-lt}
+use Rattle.std.proofs.Common.{◌≡◌, ℕ, suc, ◌+◌, ◌-◌, ◌<◌, ◌≤◌, List, [], ◌∷◌, ◌++◌, length, get_or, take, drop, set, sym, refl, ap, ◌∙◌, append_assoc, add-zero, add_assoc, add-suc, suc-add, zero-add, add-one, arith, length-append, length-drop, length-set, take-append-drop, drop_of_length-le, length-take, length-take-le, drop-cons, drop-drop, take-suc-set, take_at, drop-set-lt}
 use lib.Seq.{drop-append-add}
+use borrow.Rule.Slice.PartMut.{put_mid}
 use Rattle.slices.specs.Splice.{splice, Wrote}
 
 module _ {A : Type 0} where
@@ -63,6 +64,13 @@ module _ {A : Type 0} where
         list = w.list ∙ (rw (v.list, v.place) (splice_append d at s t (omega (arith, v.room))));
       }
 
+  -- after `copy_from_slice` into a part of d: what was written is what stands in the part now
+  pub wrote_mid : {d s e : List A} {at : ℕ} → at + length s ≤ length d → e ≡ s → Wrote d at s (at + length s) (put_mid at (at + length s - at) d e)
+  unfolding splice
+  wrote_mid {d} {s} {e} {at} h f =
+      let q : at + length s - at ≡ length s = omega arith in
+      record { room = h; place = refl; list = rw (f, q, drop-drop) }
+
   -- what lies below the place is kept
   pub wrote_kept : {d : List A} {at : ℕ} {s : List A} {p : ℕ} {e : List A} → Wrote d at s p e → take at e ≡ take at d
   wrote_kept {d} {at} {s} w = ap (take at) w.list ∙ take_splice d at s (omega (arith, w.room))
@@ -97,15 +105,6 @@ module _ {A : Type 0} where
     copying_end h =
         let f : drop i src ≡ [] = drop_of_length-le src h in
         record { room = room; place = refl; list = sym (splice_nil out (at + i)) ∙ (rw f at c.list) }
-
-    -- what lies below the place is kept on the way too
-    pub copying_kept : take at out ≡ take at d
-    copying_kept =
-        sym (take-take at (at + i) out (omega arith))
-        ∙ ap (take at) (sym (take_splice out (at + i) (drop i src) (omega (arith, c.long, c.below))))
-        ∙ take-take at (at + i) (splice out (at + i) (drop i src)) (omega arith)
-        ∙ ap (take at) c.list
-        ∙ take_splice d at src (omega arith)
 
 -- one element written
 pub wrote_one : (d : List ℕ) (at x : ℕ) → at < length d → Wrote d at (x ∷ []) (at + 1) (set d at x)

@@ -1,7 +1,7 @@
 -- Texts: their order and their equality (document 01, "Values and operators"). Assumes nothing: these are definitions.
 use Rattle.std.specs.Prelude.{ℕ, Bool, true, false, List, [], ◌∷◌, ◌==◌, nat_lt}
-use Rattle.slices.specs.declared.Ordering.{Ordering}
-use Rattle.slices.specs.declared.Ordering.TheVariants.{Less, Equal, Greater}
+use Rattle.std.specs.declared.cmp.Ordering.{Ordering}
+use Rattle.std.specs.declared.cmp.Ordering.TheVariants.{Less, Equal, Greater}
 
 -- the order that two tests tell, "the first is less" and "the second is less", and what decides where neither holds
 abbrev pub by_tests : Bool → Bool → Ordering → Ordering

@@ -5,38 +5,16 @@ ghost use Rattle.std.specs.Prelude.{◌≡◌, ◌+◌, ◌≤◌, length};
 ghost use Rattle.slices.specs.Splice.{piece, Wrote};
 ghost use Rattle.slices.specs.Bytes.{by_bytes, same_bytes};
 
-// How two values stand to each other, as Rust's std::cmp::Ordering.
-#[derive(Clone, Copy)]
-pub enum Ordering {
-    Less,
-    Equal,
-    Greater,
-}
+use std::cmp::Ordering;
 
-// Copies the bytes of src into out from the place at on, and returns the place after them.
-pub fn copy_bytes(src: &[u8], out: &mut [u8], at: usize) -> usize
+// Copies src into out from the place at on, and returns the place after it.
+pub fn copy<T: Copy>(src: &[T], out: &mut [T], at: usize) -> usize
     requires { at + length src.now ≤ length out.old }
     ensures { Wrote out.old at src.now result out.new }
 {
-    let mut i: usize = 0;
-    while i < src.len() {
-        out[at + i] = src[i];
-        i += 1;
-    }
-    at + src.len()
-}
-
-// The same for words.
-pub fn copy_words(src: &[u64], out: &mut [u64], at: usize) -> usize
-    requires { at + length src.now ≤ length out.old }
-    ensures { Wrote out.old at src.now result out.new }
-{
-    let mut i: usize = 0;
-    while i < src.len() {
-        out[at + i] = src[i];
-        i += 1;
-    }
-    at + src.len()
+    let end = at + src.len();
+    out[at..end].copy_from_slice(src);
+    end
 }
 
 // Copies the n bytes at from to the place to, at or above their end, and returns the place after them.
@@ -44,12 +22,7 @@ pub fn copy_up(text: &mut [u8], from: usize, n: usize, to: usize) -> usize
     requires { (from + n ≤ to) × (to + n ≤ length text.old) }
     ensures { Wrote text.old to (piece from n text.old) result text.new }
 {
-    let mut i: usize = 0;
-    while i < n {
-        let b = text[from + i];
-        text[to + i] = b;
-        i += 1;
-    }
+    text.copy_within(from..from + n, to);
     to + n
 }
 
@@ -57,23 +30,7 @@ pub fn copy_up(text: &mut [u8], from: usize, n: usize, to: usize) -> usize
 pub fn compare_bytes(a: &[u8], b: &[u8]) -> Ordering
     ensures { result ≡ by_bytes a.now b.now }
 {
-    let mut i: usize = 0;
-    while i < a.len() {
-        if b.len() <= i {
-            return Ordering::Greater;
-        }
-        if a[i] < b[i] {
-            return Ordering::Less;
-        }
-        if b[i] < a[i] {
-            return Ordering::Greater;
-        }
-        i += 1;
-    }
-    if i < b.len() {
-        return Ordering::Less;
-    }
-    Ordering::Equal
+    a.cmp(b)
 }
 
 // Whether two texts are equal: their lengths first, then byte by byte from the end, since names and keys often begin alike.
@@ -83,12 +40,10 @@ pub fn equal_bytes(a: &[u8], b: &[u8]) -> bool
     if a.len() != b.len() {
         return false;
     }
-    let mut i: usize = a.len();
-    while 0 < i {
-        if a[i - 1] != b[i - 1] {
+    for i in (0..a.len()).rev() {
+        if a[i] != b[i] {
             return false;
         }
-        i -= 1;
     }
     true
 }

@@ -9,8 +9,8 @@ use Rattle.refusals.specs.Stop.{never, stop_if, or_else}
 use Rattle.refusals.proofs.First.{never_both, not_stopped}
 use Rattle.refusals.proofs.Bools.{true_false}
 use Rattle.slices.specs.Bytes.{is_less, is_equal}
-use Rattle.slices.specs.declared.Ordering.{Ordering}
-use Rattle.slices.specs.declared.Ordering.TheVariants.{Less, Equal}
+use Rattle.std.specs.declared.cmp.Ordering.{Ordering}
+use Rattle.std.specs.declared.cmp.Ordering.TheVariants.{Less, Equal}
 use Rattle.values.proofs.Ordered.{not_less}
 use Rattle.sorting.specs.Sorted.{Compare, ascends, key_among, double_stop, new_stop}
 use Rattle.sorting.proofs.Lawful.{Lawful, less_true, equal_false, equal_true}

@@ -1,21 +1,22 @@
 -- Leaves that were read off the bytes, and what their cells mean. Assumes nothing.
 use mathlib.Core.Path.{◌≡◌, refl, sym, ap, ◌∙◌}
 use mathlib.Core.Bool.{true, false}
-use mathlib.Core.List.{List}
+use mathlib.Core.List.{List, [], ◌∷◌}
 use Prim.Native.Nat.{ℕ, zero, suc, ◌+◌, ◌-◌, ◌*◌, ◌^◌, ◌/◌, ◌%◌, ◌≤◌, ◌<◌}
 use native.Mathlib.Omega.{arith}
-use native.Mathlib.Numerals.{add-one}
-use lib.ListN.{length, get_or, take, drop}
+use lib.ListN.{length, get_or, take}
 use lib.Seq.{length-take-le}
 use lib.Dec.{leb}
 use borrow.Author.Tests.{eq-eqb, ne_eqb, lt-leb, leb-false}
+use Rattle.std.specs.List.{All}
+use Rattle.std.proofs.lemmas.List.Elements.{All-head, All-tail}
 use Rattle.refusals.specs.Stop.{never}
 use Rattle.refusals.proofs.Bools.{true_false}
 use Rattle.slices.specs.Bytes.{both}
 use Rattle.cells.specs.Cell.{WellFormed, bodies_of}
 use Rattle.cells.proofs.Stops.{stop_never, never_stops, cell_by, text_by}
 use Rattle.checks.specs.Check.{room_stop, cells_stop}
-use Rattle.checks.proofs.Turns.{cells_turn, cells_sound, room_never}
+use Rattle.checks.proofs.Turns.{cells_sound, room_never}
 use Rattle.conditions.specs.Table.{LeafSound, RowSound, LeafIs}
 use Rattle.conditions.proofs.Leaves.{leaf_column, leaf_literal}
 use Rattle.nodes.specs.Kind.{is_kind, known, body_of, leaf_word, text_fits, two, four}
@@ -34,11 +35,13 @@ int_fine used w e =
     let k : w / 2 ^ 56 ≡ 1 = omega arith in
     stop_never used w 0 (cell_by w 1 (2 ^ 32) k refl (omega arith)) (text_by used w 1 k (λ x. omega arith))
 
--- a cell of a row that is not refused
-pub cell_passed : (used : ℕ) (ws : List ℕ) (i : ℕ) → i < length ws → WellFormed used (get_or ws i 0) → cells_stop used i (drop i ws) ≡ cells_stop used (i + 1) (drop (i + 1) ws)
-cell_passed used ws i h k =
-    let q = never_stops used (get_or ws i 0) 0 k in
-    cells_turn used i ws i h ∙ rw (stop_never used (get_or ws i 0) i q.0 q.1) (ap (λ p. cells_stop used p (drop (i + 1) ws)) (sym (add-one i)))
+-- a row whose cells are all well formed is not refused
+pub cells_passed : (used p : ℕ) (ws : List ℕ) → All (WellFormed used) ws → cells_stop used p ws ≡ never
+unfolding cells_stop
+cells_passed used p [] h = refl
+cells_passed used p (w ∷ ws) h =
+    let q = never_stops used w 0 (All-head (WellFormed used) w ws h) in
+    rw (stop_never used w p q.0 q.1) (cells_passed used (suc p) ws (All-tail (WellFormed used) w ws h))
 
 -- a row none of whose cells is refused is sound below the mark
 pub row_sound : (row text : List ℕ) (used : ℕ) → used ≤ length text → cells_stop used 0 row ≡ never → RowSound (length (take used text)) row

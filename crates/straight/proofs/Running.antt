@@ -7,6 +7,7 @@ use native.Mathlib.Omega.{arith}
 use lib.ListN.{length, get_or, set, length-set}
 use lib.Dec.{ltb, leb}
 use borrow.Author.Tests.{lt-ltb, le-ltb, le-leb, ltb-false, ne_eqb}
+use Rattle.std.specs.Prelude.{Some}
 use Rattle.cells.specs.Cell.{WellFormed, kind_of}
 use Rattle.values.specs.Value.{value_of}
 use Rattle.operators.specs.declared.Rules.{Rules}
@@ -19,7 +20,7 @@ use Rattle.forms.specs.Number.{is_missing, numbers_stop}
 use Rattle.forms.proofs.Steps.{to_leaf, to_two}
 use Rattle.forms.proofs.Scanning.{parse_more, parse_end}
 use Rattle.forms.proofs.Numbers.{numbers_turn, numbers_end}
-use Rattle.wordwise.specs.Settled.{nothing, Settled, on_both, IsTwoSided}
+use Rattle.wordwise.specs.Settled.{Settled, on_both, IsTwoSided}
 use Rattle.straight.specs.Straight.{LeafRead, IsWhole, Ran}
 use Rattle.straight.proofs.Reading.{leaf_is}
 use Rattle.straight.proofs.Stacking.{Valued, Stacked, Topped, valued_leaf, valued_two, stacked_more, push}
@@ -172,7 +173,7 @@ module _ (b row stored stack : List ℕ) (top n done at : ℕ) (S : Running b ro
             let d : leb (max (height pair.left) (height pair.right) + 1) 16 ≡ true = le-leb (max (height pair.left) (height pair.right) + 1) 16 (omega (arith, pair.left_value.low, pair.right_value.low)) in
             to_two Bound used at b k e s (known_two k K.above K.below K.known) (omega (arith, body)) K.above ∙ ap (λ x. on_two k s x) f ∙ ap (λ x. on_two k x (at + 1)) pair.is ∙ rw d
 
-        module _ (r : ℕ) (given : r ≡ nothing → ⊥) (settled : (R : Rules) → Settled r (on_both R k (value_of stored (get_or stack (n - 1) 0)) (value_of stored top))) where
+        module _ (r : ℕ) (settled : (R : Rules) → Settled (Some r) (on_both R k (value_of stored (get_or stack (n - 1) 0)) (value_of stored top))) where
           pub run_two : Running b row stored stack r (n - 1) (done + 1) (at + 1)
           unfolding total size Topped
           run_two =
@@ -186,7 +187,7 @@ module _ (b row stored stack : List ℕ) (top n done at : ℕ) (S : Running b ro
                 same = (
                   m + 1,
                   joint ∷ p.rest,
-                  (omega arith, valued_two stored row (done + 1) k p.left p.right _ _ r p.left_value p.right_value given settled, stacked_more stored row (done + 1) stack (n - 1 - 1) p.rest p.below),
+                  (omega arith, valued_two stored row (done + 1) k p.left p.right _ _ r p.left_value p.right_value settled, stacked_more stored row (done + 1) stack (n - 1 - 1) p.rest p.below),
                   record {
                     form = λ d. next_form (omega arith) (joint ∷ p.rest) (at + 1) (goes d);
                     numbers = λ d. next_numbers (omega arith) there ∙ ap (λ x. numbers_stop (length row) b (64 - (m + 1)) x) (let g : at + 1 + body_of k ≡ at + 1 = omega (arith, body) in g);

@@ -5,13 +5,14 @@ use Prim.Native.Nat.{ℕ, ◌+◌, ◌-◌, ◌≤◌, ◌<◌}
 use native.Mathlib.Omega.{arith}
 use lib.ListN.{length, get_or, set}
 use lib.Seq.{get_or-set_same, get_or-set_other}
+use Rattle.std.specs.Prelude.{Some}
 use Rattle.cells.specs.Cell.{WellFormed}
 use Rattle.values.specs.Value.{value_of}
 use Rattle.integers.specs.Outcome.{value}
 use Rattle.operators.specs.declared.Rules.{Rules}
 use Rattle.conditions.specs.Ast.{Tree, leaf, binary, map_tree, eval, height}
 use Rattle.conditions.specs.Table.{leaf_of, row_of, LeafIs}
-use Rattle.wordwise.specs.Settled.{nothing, Settled, on_both}
+use Rattle.wordwise.specs.Settled.{Settled, on_both}
 use Rattle.wordwise.proofs.Worth.{Worth, worth, holds_both}
 
 -- a tree at most so deep, and the cell that it comes to
@@ -37,11 +38,11 @@ module _ (stored row : List ℕ) (deep : ℕ) where
   unfolding height map_tree
   valued_leaf w r h l = record { low = h; means = λ R. l.means R stored; fine = l.within }
 
-  pub valued_two : (op : ℕ) (t u : Tree ℕ) (a b r : ℕ) → Valued stored row deep t a → Valued stored row deep u b → (r ≡ nothing → ⊥)
-      → ((R : Rules) → Settled r (on_both R op (value_of stored a) (value_of stored b))) → Valued stored row (deep + 1) (binary op t u) r
+  pub valued_two : (op : ℕ) (t u : Tree ℕ) (a b r : ℕ) → Valued stored row deep t a → Valued stored row deep u b
+      → ((R : Rules) → Settled (Some r) (on_both R op (value_of stored a) (value_of stored b))) → Valued stored row (deep + 1) (binary op t u) r
   unfolding height map_tree eval on_both
-  valued_two op t u a b r A B n s =
-      let is : (R : Rules) → Worth stored r (on_both R op (value_of stored a) (value_of stored b)) = λ R. worth stored R.limit r _ (holds_both R op stored a b) n (s R) in
+  valued_two op t u a b r A B s =
+      let is : (R : Rules) → Worth stored r (on_both R op (value_of stored a) (value_of stored b)) = λ R. worth stored R.limit r _ (holds_both R op stored a b) (s R) in
       record {
         low = omega (arith, A.low, B.low);
         means = λ R. rw (A.means R, B.means R) (is R).means;

@@ -6,7 +6,7 @@ ghost use Rattle.refusals.specs.Stop.{checked_of};
 ghost use Rattle.tables.specs.Table.{is_table, count_stop, are_rows, words_stop, row_at};
 
 use columns::RowNumber;
-use refusals::{Checked, Refusal};
+use refusals::Refusal;
 
 // Whether column words are a table of 1 to 32 columns.
 pub fn is_table(columns: &[u64]) -> bool
@@ -22,13 +22,13 @@ pub fn is_table(columns: &[u64]) -> bool
 }
 
 // What is wrong with the count of a table's column words.
-pub fn check_count(columns: &[u64]) -> Checked
+pub fn check_count(columns: &[u64]) -> Result<(), Refusal>
     ensures { checked_of result ≡ count_stop (is_table columns.now) }
 {
     if !is_table(columns) {
-        return Checked::Refused(Refusal::Malformed(0));
+        return Err(Refusal::Malformed(0));
     }
-    Checked::Sound
+    Ok(())
 }
 
 // Whether words are 0 to 4,096 rows of so many cells.
@@ -49,23 +49,14 @@ pub fn check_words(
     first: &[u64],
     second: &[u64],
     used: usize,
-) -> Checked
+) -> Result<(), Refusal>
     requires { length left.now + length right.now + length first.now + length second.now < 2 ^ 64 }
     ensures { checked_of result ≡ words_stop used (left.now ∷ right.now ∷ []) (first.now ∷ second.now ∷ []) }
 {
-    let a = columns::check_columns(left, used, 0);
-    let Checked::Sound = a else {
-        return a;
-    };
-    let b = columns::check_columns(right, used, left.len());
-    let Checked::Sound = b else {
-        return b;
-    };
+    columns::check_columns(left, used, 0)?;
+    columns::check_columns(right, used, left.len())?;
     let place = left.len() + right.len();
-    let c = checks::check_cells(first, used, place);
-    let Checked::Sound = c else {
-        return c;
-    };
+    checks::check_cells(first, used, place)?;
     checks::check_cells(second, used, place + first.len())
 }
 

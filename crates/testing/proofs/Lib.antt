@@ -1,4 +1,3 @@
 -- What the proofs of several functions use, here and above.
-pub mod Preparing
 pub mod Testing
 pub mod Unique

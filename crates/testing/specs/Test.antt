@@ -1,5 +1,5 @@
 -- A condition as a test of rows: select, delete, update and the joins ask it of each row or pair. Assumes nothing: these are definitions.
-use Rattle.std.specs.Prelude.{ℕ, ◌<◌, ◌≡◌, Bool, true, false, List, [], ◌∷◌, length, take, get_or, eqb}
+use Rattle.std.specs.Prelude.{ℕ, ◌<◌, ◌≡◌, Bool, true, List, [], ◌∷◌, length, take, get_or}
 use Rattle.refusals.specs.Told.{told}
 use Rattle.refusals.specs.Stop.{Stop, never, stop_of, or_else}
 use Rattle.values.specs.Value.{to_bool}
@@ -11,12 +11,10 @@ use Rattle.conditions.specs.Table.{leaf_of, row_of}
 use Rattle.nodes.specs.declared.Allowed.TheVariants.{Bound}
 use Rattle.forms.specs.Form.{parsed, form_stop, of_tree}
 use Rattle.forms.specs.Held.{ScanIs}
-use Rattle.forms.specs.declared.Scanned.{Scanned}
-use Rattle.forms.specs.declared.Scanned.TheVariants.{Table, Denied}
 use Rattle.forms.specs.Number.{numbers_stop}
 use Rattle.evaluation.specs.Evaluation.{is_row_length}
-use Rattle.testing.specs.declared.Verdict.{Verdict}
-use Rattle.testing.specs.declared.Verdict.TheVariants.{Yes, No, Refused}
+use Rattle.std.specs.Prelude.{Result, Ok, Err, Option, Some, None}
+use Rattle.refusals.specs.declared.Refusal.{Refusal}
 
 -- what a test finds: whether the condition is true, or a refusal's number; the place is the caller's to tell
 pub data Tested : Type 0 where
@@ -45,29 +43,29 @@ room_for [] = 0
 room_for (x ∷ b) = 32768
 
 -- what a verdict tells, of the row that has this place
-abbrev pub VerdictIs : ℕ → Verdict → Tested → Type 0
-VerdictIs place Yes t = t ≡ is true
-VerdictIs place No t = t ≡ is false
-VerdictIs place (Refused r) t = (t ≡ refuses (told r).number) × ((told r).place ≡ place)
+abbrev pub VerdictIs : ℕ → Result Bool Refusal → Tested → Type 0
+VerdictIs place (Ok holds) t = t ≡ is holds
+VerdictIs place (Err r) t = (t ≡ refuses (told r).number) × ((told r).place ≡ place)
 
--- a verdict as a number: 1 and 0 tell the truth, any other nothing
-abbrev pub TriedIs : ℕ → Tested → Type 0
-TriedIs r t = r < 2 → t ≡ is (eqb r 1)
+-- what a try by one word tells: the truth, or nothing
+abbrev pub TriedIs : Option Bool → Tested → Type 0
+TriedIs (Some holds) t = t ≡ is holds
+TriedIs None t = Unit {0}
 
 -- a test's verdict, and that the text below the mark is as it was
-pub record TestIs (used place : ℕ) (before after : List ℕ) (v : Verdict) (t : Tested) : Type 0 where
+pub record TestIs (used place : ℕ) (before after : List ℕ) (v : Result Bool Refusal) (t : Tested) : Type 0 where
   pub kept : take used after ≡ take used before
   pub says : VerdictIs place v t
 
 -- a condition prepared for rows of so many cells: its table has n nodes; no condition has none
 abbrev pub Ready : ℕ → ℕ → List ℕ → ℕ → List ℕ → Type 0
 Ready used width nodes n [] = n ≡ 0
-Ready used width nodes n (x ∷ b) = (condition_stop used width (x ∷ b) ≡ never) × ScanIs used (x ∷ b) nodes (Table n) (parsed Bound used (x ∷ b))
+Ready used width nodes n (x ∷ b) = (condition_stop used width (x ∷ b) ≡ never) × ScanIs used (x ∷ b) nodes (Ok n) (parsed Bound used (x ∷ b))
 
 -- the prepared table, or what stops it
-abbrev pub PreparedIs : ℕ → ℕ → List ℕ → List ℕ → Scanned → Type 0
-PreparedIs used width b nodes (Table n) = (condition_stop used width b ≡ never) × Ready used width nodes n b
-PreparedIs used width b nodes (Denied r) = condition_stop used width b ≡ stop_of r
+abbrev pub PreparedIs : ℕ → ℕ → List ℕ → List ℕ → Result ℕ Refusal → Type 0
+PreparedIs used width b nodes (Ok n) = (condition_stop used width b ≡ never) × Ready used width nodes n b
+PreparedIs used width b nodes (Err r) = condition_stop used width b ≡ stop_of r
 
 -- what a test asks: a prepared condition, room for it, and a sound row
 pub record TestAsks (b : List ℕ) (used n : ℕ) (nodes row text : List ℕ) : Type 0 where

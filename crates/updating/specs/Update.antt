@@ -2,7 +2,6 @@
 use Rattle.std.specs.Prelude.{ℕ, true, cond, List, [], ◌∷◌, length}
 use Rattle.refusals.specs.Stop.{Stop, first_of}
 use Rattle.writing.specs.Writing.{WrittenIs}
-use Rattle.writing.specs.declared.Written.{Written}
 use Rattle.operators.specs.declared.Rules.{Rules}
 use Rattle.tables.specs.Table.{column_count}
 use Rattle.testing.specs.Test.{condition_stop}
@@ -11,6 +10,8 @@ use Rattle.marking.specs.Marks.{part, test_of}
 use Rattle.keeping.specs.Table.{row_count, table_stop}
 use Rattle.checks.specs.Check.{short_stop}
 use Rattle.setting.specs.Sets.{are_sets, sets_stop, applied}
+use Rattle.std.specs.Prelude.{Result}
+use Rattle.refusals.specs.declared.Refusal.{Refusal}
 
 -- every row in order, the true ones with the sets applied: the row is tested as it was
 abbrev pub updated : Test → List ℕ → List ℕ → List ℕ → List ℕ
@@ -30,7 +31,7 @@ update_stop t b columns rows sets stored size used output =
     ∷ [])
 
 -- what `update` answers and writes: all rows
-abbrev pub UpdateIs : Rules → List ℕ → List ℕ → List ℕ → List ℕ → List ℕ → ℕ → ℕ → List ℕ → List ℕ → Written → Type 0
+abbrev pub UpdateIs : Rules → List ℕ → List ℕ → List ℕ → List ℕ → List ℕ → ℕ → ℕ → List ℕ → List ℕ → Result ℕ Refusal → Type 0
 UpdateIs R columns rows sets b stored size used before after answer =
     WrittenIs before after answer (update_stop (test_of R b used stored rows (column_count columns)) b columns rows sets stored size used (length before))
     (row_count columns rows) (updated (test_of R b used stored rows (column_count columns)) columns rows sets)

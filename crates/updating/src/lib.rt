@@ -9,9 +9,7 @@ ghost use Rattle.operators.specs.Operator.{base};
 ghost use Rattle.updating.specs.Update.{UpdateIs};
 ghost use Rattle.setting.specs.Asked.{all_words, AllAsked};
 
-use marking::Marked;
-use refusals::{Checked, Refusal};
-use writing::Written;
+use refusals::Refusal;
 
 // Writes all rows in order from the start on, each by its mark, and returns the place after them.
 fn write_updated(
@@ -26,11 +24,9 @@ fn write_updated(
     ensures { Wrote out.old 0 (all_words sets.now rows.now width n marks.now) result out.new }
 {
     let mut at: usize = 0;
-    let mut i: usize = 0;
-    while i < n {
+    for i in 0..n {
         let start = i * width;
         at = setting::write_row(&rows[start..start + width], sets, marks[i], out, at);
-        i += 1;
     }
     at
 }
@@ -43,17 +39,17 @@ fn write_all(
     sets: &[u64],
     marks: &[u64],
     out: &mut [u64],
-) -> Written
+) -> Result<usize, Refusal>
     requires { AllAsked sets.now rows.now marks.now width n }
     ensures { WrittenIs out.old out.new result
         (short_stop (length out.old) (length (all_words sets.now rows.now width n marks.now))) n
         (all_words sets.now rows.now width n marks.now) }
 {
     if out.len() < rows.len() {
-        return Written::Refused(Refusal::OutputShort(rows.len()));
+        return Err(Refusal::OutputShort(rows.len()));
     }
     write_updated(rows, width, n, sets, marks, out);
-    Written::Count(n)
+    Ok(n)
 }
 
 // `update`: every row is tested as it was, and all before any is written, since a refused call leaves the output alone.
@@ -65,31 +61,23 @@ pub fn update(
     text: &mut [u8],
     used: usize,
     out: &mut [u64],
-) -> Written
+) -> Result<usize, Refusal>
     ensures update_is { UpdateIs base columns.now rows.now sets.now condition.now
         (take used text.old) (length text.old) used out.old out.new result }
     ensures text_unchanged { (take used text.new ≡ take used text.old) × (length condition.now ≡ 0 → text.new ≡ text.old) }
 {
-    let table = keeping::check_table(
+    keeping::check_table(
         columns,
         rows,
         setting::are_sets(sets),
         condition,
         text.len(),
         used,
-    );
-    if let Checked::Refused(r) = table {
-        return Written::Refused(r);
-    }
-    let wrong = setting::check_sets(columns, sets, used);
-    if let Checked::Refused(r) = wrong {
-        return Written::Refused(r);
-    }
+    )?;
+    setting::check_sets(columns, sets, used)?;
     let width = columns.len() / 2;
     let n = rows.len() / width;
     let mut marks = [0u64; 4096];
-    match marking::mark_table(condition, rows, width, n, text, used, &mut marks) {
-        Marked::Refused(r) => Written::Refused(r),
-        Marked::Rows(_) => write_all(rows, width, n, sets, &marks, out),
-    }
+    marking::mark_table(condition, rows, width, n, text, used, &mut marks)?;
+    write_all(rows, width, n, sets, &marks, out)
 }

@@ -1,5 +1,5 @@
 -- Values by their words: two different words of cells mean different values, unless both are texts. Assumes nothing.
-use mathlib.Core.Path.{◌≡◌, refl, sym, ap, ap₂, ◌∙◌}
+use mathlib.Core.Path.{◌≡◌, refl, sym, ap, ◌∙◌}
 use mathlib.Core.List.{List}
 use mathlib.Core.Bool.{Bool, true, false}
 use Prim.Native.Nat.{ℕ, ◌%◌, ◌^◌}
@@ -7,16 +7,16 @@ use native.Mathlib.Omega.{arith}
 use lib.Dec.{eqb}
 use borrow.Author.Tests.{eqb-true, eqb-false}
 use mir.Syntax.{w32}
-use mir.Val.{to_z, of_z}
+use mir.Val.{to_z}
 use Rattle.slices.specs.Splice.{piece}
 use Rattle.slices.specs.Bytes.{is_equal, same_bytes}
 use Rattle.slices.proofs.Bytes.{same_order}
-use Rattle.slices.specs.declared.Ordering.{Ordering}
-use Rattle.slices.specs.declared.Ordering.TheVariants.{Less, Equal, Greater}
+use Rattle.std.specs.declared.cmp.Ordering.{Ordering}
+use Rattle.std.specs.declared.cmp.Ordering.TheVariants.{Less, Equal, Greater}
 use Rattle.cells.specs.Cell.{kind_of, start_of, length_of, is_cell, ref_of, word_of}
 use Rattle.cells.specs.declared.ValueRef.{ValueRef}
 use Rattle.cells.specs.declared.ValueRef.TheVariants.{Null, Int, Str, Binary}
-use Rattle.cells.proofs.Words.{ref_int, ref_str, ref_binary, ref_null, word_back, held_int}
+use Rattle.cells.proofs.Words.{ref_int, ref_str, ref_binary, ref_null, word_back}
 use Rattle.values.specs.Value.{null, int, str, to_value, value_of}
 use Rattle.values.specs.Order.{by_ints, order}
 use Rattle.values.proofs.Ordered.{order_equal}
@@ -38,12 +38,11 @@ pub value_null : (t : List ℕ) → value_of t 0 ≡ null
 unfolding to_value
 value_null t = rw (ref_null 0 (λ e. omega arith) (λ e. omega arith) (λ e. omega arith))
 
--- two Ints, as the code passes them on
+-- two Ints
 pub ints_order : (t : List ℕ) (a b : ℕ) (o : Ordering) → kind_of a ≡ 1 → kind_of b ≡ 1
-    → o ≡ by_ints (to_z w32 (of_z w32 (to_z w32 (a % 2 ^ 32)))) (to_z w32 (of_z w32 (to_z w32 (b % 2 ^ 32)))) → o ≡ order (value_of t a) (value_of t b)
+    → o ≡ by_ints (to_z w32 (a % 2 ^ 32)) (to_z w32 (b % 2 ^ 32)) → o ≡ order (value_of t a) (value_of t b)
 unfolding order
-ints_order t a b o e f g =
-    rw (value_int t a e, value_int t b f) (g ∙ ap₂ by_ints (held_int (a % 2 ^ 32) (omega arith)) (held_int (b % 2 ^ 32) (omega arith)))
+ints_order t a b o e f g = rw (value_int t a e, value_int t b f) g
 
 -- two texts are equal values exactly if their bytes are the same
 pub strs_equal : (t : List ℕ) (a b : ℕ) (r : Bool) → kind_of a ≡ 2 → kind_of b ≡ 2

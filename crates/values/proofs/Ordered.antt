@@ -13,7 +13,9 @@ use mir.Facts.{to_z-of_z}
 use Rattle.refusals.proofs.Bools.{true_false}
 use Rattle.slices.specs.Bytes.{by_tests}
 use Rattle.slices.proofs.Bytes.{bytes_self, bytes_equal}
-use Rattle.slices.specs.declared.Ordering.TheVariants.{Less, Equal, Greater}
+use Rattle.std.specs.Prelude.{cond}
+use Rattle.std.specs.Ordering.{int_cmp}
+use Rattle.std.specs.declared.cmp.Ordering.TheVariants.{Less, Equal, Greater}
 use Rattle.values.specs.Value.{Value, null, int, str, binary}
 use Rattle.values.specs.Order.{by_ints, order}
 
@@ -26,26 +28,14 @@ ints_one_way (pos a) (negsuc b) e = sym e
 ints_one_way (negsuc a) (pos b) e = refl
 ints_one_way (negsuc a) (negsuc b) e = le-ltb a b (omega (arith, ltb-true b a e))
 
--- ---- Ints as the code has them
-
-module _ {x y : ℤ} (h : SFits w32 x) (k : SFits w32 y) where
-  abbrev test : ℤ → ℤ → Bool
-  test a b = lt_z (to_z w32 (of_z w32 a)) (to_z w32 (of_z w32 b))
-
-  pub ints_less : test x y ≡ true → by_ints x y ≡ Less
-  ints_less e = let e' : lt_z x y ≡ true = rw (to_z-of_z h, to_z-of_z k) at e in rw e'
-
-  pub ints_greater : test x y ≡ false → test y x ≡ true → by_ints x y ≡ Greater
-  ints_greater e f =
-      let e' : lt_z x y ≡ false = rw (to_z-of_z h, to_z-of_z k) at e in
-      let f' : lt_z y x ≡ true = rw (to_z-of_z h, to_z-of_z k) at f in
-      rw (e', f')
-
-  pub ints_equal : test x y ≡ false → test y x ≡ false → by_ints x y ≡ Equal
-  ints_equal e f =
-      let e' : lt_z x y ≡ false = rw (to_z-of_z h, to_z-of_z k) at e in
-      let f' : lt_z y x ≡ false = rw (to_z-of_z h, to_z-of_z k) at f in
-      rw (e', f')
+-- std's order of two Ints, as the code has them
+pub ints_held : (x y : ℤ) → SFits w32 x → SFits w32 y → int_cmp (to_z w32 (of_z w32 x)) (to_z w32 (of_z w32 y)) ≡ by_ints x y
+ints_held x y h k = rw (to_z-of_z h, to_z-of_z k) (go (lt_z x y) (lt_z y x))
+  where
+    go : (f g : Bool) → cond f Less (cond g Greater Equal) ≡ by_tests f g Equal
+    go true g = refl
+    go false true = refl
+    go false false = refl
 
 -- ---- a value is equal to itself
 

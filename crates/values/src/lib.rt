@@ -6,10 +6,10 @@ ghost use Rattle.std.specs.Prelude.{◌≡◌, List, ℕ, length};
 ghost use Rattle.cells.specs.Cell.{WellFormed, Inside};
 ghost use Rattle.values.specs.Value.{to_value, value_of, to_bool, from_bool};
 ghost use Rattle.slices.specs.Bytes.{is_equal};
-ghost use Rattle.values.specs.Order.{by_ints, order};
+ghost use Rattle.values.specs.Order.{order};
 
 use cells::ValueRef;
-use slices::Ordering;
+use std::cmp::Ordering;
 
 // Value::to_bool
 pub fn to_bool(value: ValueRef) -> bool
@@ -34,20 +34,6 @@ pub fn from_bool(boolean: bool) -> ValueRef
     }
 }
 
-// The order of two Ints.
-fn compare_ints(a: i32, b: i32) -> Ordering
-    ensures { result ≡ by_ints a b }
-{
-    if a < b {
-        return Ordering::Less;
-    }
-    if b < a {
-        Ordering::Greater
-    } else {
-        Ordering::Equal
-    }
-}
-
 // The derived Ord of Value.
 pub fn compare(a: ValueRef, b: ValueRef, stored: &[u8]) -> Ordering
     requires { Inside (length stored.now) a × Inside (length stored.now) b }
@@ -60,7 +46,7 @@ pub fn compare(a: ValueRef, b: ValueRef, stored: &[u8]) -> Ordering
         },
         ValueRef::Int(x) => match b {
             ValueRef::Null => Ordering::Greater,
-            ValueRef::Int(y) => compare_ints(x, y),
+            ValueRef::Int(y) => x.cmp(&y),
             _ => Ordering::Less,
         },
         ValueRef::Str(start, length) => match b {
@@ -93,10 +79,10 @@ pub fn compare_cells(a: u64, b: u64, stored: &[u8]) -> Ordering
         if b / 0x100_0000_0000_0000 == 1 {
             let x = cells::signed(a % 0x1_0000_0000);
             let y = cells::signed(b % 0x1_0000_0000);
-            return compare_ints(x, y);
+            return x.cmp(&y);
         }
     }
-    compare(ValueRef::from_word(a), ValueRef::from_word(b), stored)
+    compare(ValueRef::from(a), ValueRef::from(b), stored)
 }
 
 // Whether two cells are equal. Of two different words only two texts can be.

@@ -1,17 +1,19 @@
--- Laws of words that were worked out: by nothing, by a truth, by an operator both of whose operands have a value. Assumes nothing.
+-- Laws of words that were worked out: by a truth, by an operator both of whose operands have a value. Assumes nothing.
 use mathlib.Core.Path.{◌≡◌, refl, sym, ap, ap₂, ◌∙◌}
 use mathlib.Core.Bool.{Bool, true, false, not}
 use mathlib.Core.List.{List}
-use Prim.Native.Nat.{ℕ, suc, ◌+◌, ◌-◌, ◌%◌, ◌^◌, ◌≤◌, ◌<◌}
+use Prim.Native.Nat.{ℕ, ◌+◌, ◌%◌, ◌^◌, ◌≤◌, ◌<◌}
 use native.Mathlib.Omega.{arith}
-use lib.IntN.{ℤ, pos, negsuc, ◌-ℤ◌}
+use lib.IntN.{ℤ}
 use lib.Signed.{mag, lt_z}
 use lib.ListN.{length}
-use lib.Dec.{ltb, eqb}
-use borrow.Author.Tests.{lt-ltb, le-ltb, ltb-true, ltb-false, ne_eqb, eqb-true, eqb-false}
+use lib.Dec.{eqb}
+use borrow.Author.Tests.{lt-ltb, le-ltb, ne_eqb, eqb-true, eqb-false}
 use mir.Syntax.{w32, w64}
 use mir.Val.{SFits, to_z, of_z}
-use mir.Facts.{of_z-to_z, to_z-of_z, sfits_widen, sfits_to_z}
+use mir.Facts.{of_z-to_z}
+use Rattle.std.specs.Prelude.{Option, Some}
+use Rattle.std.proofs.lemmas.Option.{same_Some}
 use Rattle.slices.specs.Bytes.{is_equal, is_less, is_greater}
 use Rattle.cells.specs.Cell.{WellFormed, kind_of}
 use Rattle.cells.proofs.Stops.{never_stops}
@@ -27,19 +29,19 @@ use Rattle.operators.specs.Operator.{holds, compared, binary_of}
 use Rattle.operators.specs.declared.Rules.{Rules}
 use Rattle.operators.proofs.ByKind.{binary_compared, binary_ints}
 use Rattle.conditions.specs.Ast.{decides, two_sided}
-use Rattle.wordwise.specs.Settled.{nothing, Settled, on_both, GivesBoth, Ints, IsTwoSided}
+use Rattle.wordwise.specs.Settled.{Settled, on_both, GivesBoth, Ints, IsTwoSided}
 
--- where nothing was worked out, nothing is said of the outcome
-pub unsettled : (o : Outcome) → Settled nothing o
-unsettled o = record { told = λ n. absurd (n refl) }
+-- a word that is the cell of an outcome, wherever the text begins, settles it
+pub settled : (w : ℕ) (o : Outcome) → ((top : ℕ) → gave w top ≡ placed top o) → Settled (Some w) o
+settled w o f = record { told = λ word e top. rw (sym (same_Some w word e)) (f top) }
 
 -- a word that settles an outcome settles an equal one
-pub settled_as : (r : ℕ) (o p : Outcome) → p ≡ o → Settled r o → Settled r p
+pub settled_as : (r : Option ℕ) (o p : Outcome) → p ≡ o → Settled r o → Settled r p
 settled_as r o p e s = rw e s
 
 -- a word that a truth is told as settles an outcome that is this truth
-pub flagged : (r : ℕ) (x : Bool) (o : Outcome) → ((top : ℕ) → gave r top ≡ placed top (value (from_bool x))) → o ≡ value (from_bool x) → Settled r o
-flagged r x o f e = record { told = λ n top. rw e (f top) }
+pub flagged : (r : ℕ) (x : Bool) (o : Outcome) → ((top : ℕ) → gave r top ≡ placed top (value (from_bool x))) → o ≡ value (from_bool x) → Settled (Some r) o
+flagged r x o f e = settled r o (λ top. rw e (f top))
 
 -- ---- Ints
 
@@ -51,8 +53,8 @@ module _ (f : ℕ → ℕ → ℕ) (small : (k a b : ℕ) → a < 2 ^ k → b < 
   bits_of : (w : ℕ) → of_z w32 (int_of w) ≡ w % 2 ^ 32
   bits_of w = of_z-to_z {w = w32} {n = w % 2 ^ 32} (record { fits = omega arith })
 
-  pub on_bits_lem : Settled (2 ^ 56 + f (a % 2 ^ 32) (b % 2 ^ 32)) (on_bits f (int_of a) (int_of b))
-  on_bits_lem = record { told = λ n top. sym (ap (λ n. placed top (value (int (to_z w32 n)))) (ap₂ f (bits_of a) (bits_of b)) ∙ placed_bits top (f (a % 2 ^ 32) (b % 2 ^ 32)) bits_fit) }
+  pub on_bits_lem : Settled (Some (2 ^ 56 + f (a % 2 ^ 32) (b % 2 ^ 32))) (on_bits f (int_of a) (int_of b))
+  on_bits_lem = settled _ _ (λ top. sym (ap (λ n. placed top (value (int (to_z w32 n)))) (ap₂ f (bits_of a) (bits_of b)) ∙ placed_bits top (f (a % 2 ^ 32) (b % 2 ^ 32)) bits_fit))
 
 -- an operation on two numbers that were read off words, as the code holds them
 module _ (f : ℤ → ℤ → ℤ) (fits : (x y : ℤ) → mag x < 2 ^ 31 → mag y < 2 ^ 31 → SFits w64 (f x y)) (a b : ℕ) (x y : ℤ) (e : x ≡ int_of a) (g : y ≡ int_of b) where
@@ -62,7 +64,7 @@ module _ (f : ℤ → ℤ → ℤ) (fits : (x y : ℤ) → mag x < 2 ^ 31 → ma
   pub asked : SFits w64 (f (held x) (held y))
   asked = rw (e, g) (held_fits f (int_of a) (int_of b) (int_fits a) (int_fits b) fit)
 
-  pub came : (r : ℕ) → Settled r (fitted (held (f (held x) (held y)))) → Settled r (fitted (f (int_of a) (int_of b)))
+  pub came : (r : Option ℕ) → Settled r (fitted (held (f (held x) (held y)))) → Settled r (fitted (f (int_of a) (int_of b)))
   came r s = settled_as r (fitted (held (f (held x) (held y)))) (fitted (f (int_of a) (int_of b))) (ap fitted (sym (ap₂ (λ u v. held (f (held u) (held v))) e g ∙ held_op f (int_of a) (int_of b) (int_fits a) (int_fits b) fit))) s
 
 -- held numbers that were read off words are less exactly if the Ints of the words are
@@ -133,10 +135,6 @@ module _ (R : Rules) (v w : Value) where
 pub two_sided_lem : (op n : ℕ) → op ≡ n → 32 ≤ n → n < 47 → IsTwoSided op
 two_sided_lem op n e l u = record { above = omega arith; below = omega arith; known = λ x. omega arith }
 
--- AND and OR, of kinds 48 and 49, are two-sided operators, too
-pub two_sided_truth : (op n : ℕ) → op ≡ n → 48 ≤ n → n < 50 → IsTwoSided op
-two_sided_truth op n e l u = record { above = omega arith; below = omega arith; known = λ x. omega arith }
-
 -- ---- comparisons of two Ints
 
 module _ (R : Rules) (t : List ℕ) (a b : ℕ) (I : Ints a b) where
@@ -180,46 +178,17 @@ module _ (R : Rules) (t : List ℕ) (a b : ℕ) (I : Ints a b) where
     unfolding holds
     ints_unequal = both_compared R 33 (value_of t a) (value_of t b) (omega arith) ∙ ap (λ x. value (from_bool (not x))) (sym same_word)
 
--- ---- the sign extension
-
-module _ (n : ℕ) (h : n < 2 ^ 32) where
-  abbrev shifted : ℕ
-  shifted = (n + 2147483648) % 4294967296
-
-  extended : to_z w64 shifted -ℤ pos 2147483648 ≡ to_z w32 n
-  extended = go (ltb n 2147483648) refl
-    where
-      go : (x : Bool) → ltb n 2147483648 ≡ x → to_z w64 shifted -ℤ pos 2147483648 ≡ to_z w32 n
-      go true e =
-          let l = ltb-true n 2147483648 e in
-          let q : shifted ≡ n + 2147483648 = omega arith in
-          rw (q, lt-ltb (n + 2147483648) (2 ^ 63) (omega arith), le-ltb (n + 2147483648) 2147483648 (omega arith), lt-ltb n (2 ^ 31) l) (ap pos (let z : n + 2147483648 - 2147483648 ≡ n = omega arith in z))
-      go false e =
-          let l = ltb-false n 2147483648 e in
-          let q : shifted ≡ n - 2147483648 = omega arith in
-          rw (q, lt-ltb (n - 2147483648) (2 ^ 63) (omega arith), lt-ltb (n - 2147483648) 2147483648 (omega arith), le-ltb n (2 ^ 31) l) (ap negsuc (let z : 2147483648 - suc (n - 2147483648) ≡ 4294967296 - suc n = omega arith in z))
-
-  pub extended_fits : SFits w64 (to_z w64 shifted -ℤ pos 2147483648)
-  extended_fits = rw extended (sfits_widen tt (sfits_to_z {w = w32} {n = n} (record { fits = h })))
-
-  pub extended_is : to_z w64 (of_z w64 (to_z w64 shifted -ℤ pos 2147483648)) ≡ to_z w32 n
-  extended_is = to_z-of_z extended_fits ∙ extended
-
 -- ---- words that were worked out from two words
 
 -- a word worked out for one kind is worked out for an equal one
-pub given_as : (op n a b r : ℕ) → op ≡ n → GivesBoth n a b r → GivesBoth op a b r
+pub given_as : (op n a b : ℕ) (r : Option ℕ) → op ≡ n → GivesBoth n a b r → GivesBoth op a b r
 given_as op n a b r e g = rw e g
-
--- where nothing was worked out, nothing is said of the two words
-pub none_given : (op a b : ℕ) → GivesBoth op a b nothing
-none_given op a b = record { settled = λ R t h k. unsettled _ }
 
 -- a word that a truth is told as, where the operator gives this truth in every text
 pub flag_given : (n a b r : ℕ) (x : Bool) → ((top : ℕ) → gave r top ≡ placed top (value (from_bool x)))
-    → ((R : Rules) (t : List ℕ) → WellFormed (length t) a → WellFormed (length t) b → on_both R n (value_of t a) (value_of t b) ≡ value (from_bool x)) → GivesBoth n a b r
+    → ((R : Rules) (t : List ℕ) → WellFormed (length t) a → WellFormed (length t) b → on_both R n (value_of t a) (value_of t b) ≡ value (from_bool x)) → GivesBoth n a b (Some r)
 flag_given n a b r x f e = record { settled = λ R t h k. flagged r x _ f (e R t h k) }
 
 -- a word that settles an operator from 38 to 46 on the Ints of both words
-pub ints_given : (n a b r : ℕ) → 38 ≤ n → n < 47 → Ints a b → Settled r (on_ints n (int_of a) (int_of b)) → GivesBoth n a b r
+pub ints_given : (n a b : ℕ) (r : Option ℕ) → 38 ≤ n → n < 47 → Ints a b → Settled r (on_ints n (int_of a) (int_of b)) → GivesBoth n a b r
 ints_given n a b r l u I s = record { settled = λ R t h k. settled_as r _ _ (both_ints R n t a b l u I.first I.second) s }

@@ -7,6 +7,7 @@ use native.Mathlib.Omega.{arith}
 use native.Mathlib.Nat.{add-zero}
 use lib.IntN.{ℤ, pos}
 use lib.Dec.{eqb}
+use Rattle.std.specs.Prelude.{Some}
 use Rattle.cells.specs.Cell.{word_of}
 use Rattle.cells.specs.declared.ValueRef.TheVariants.{Null, Int, Binary}
 use Rattle.values.specs.Value.{Value, null, int, str, binary, from_bool}
@@ -15,6 +16,7 @@ use Rattle.integers.specs.Integer.{fitted, is_int32, is_zero, is_amount, on_ints
 use Rattle.operators.specs.Operator.{on_int, unary_of}
 use Rattle.operators.specs.declared.Rules.{Rules}
 use Rattle.wordwise.specs.Settled.{Settled}
+use Rattle.wordwise.proofs.Settling.{settled}
 
 -- ---- operators that give no text
 
@@ -77,10 +79,10 @@ any_rules R S op v = refl
 -- ---- settled at one top, settled at every
 
 -- an outcome without a text is settled by the word that it gives at top 0
-pub settled_anywhere : (o : Outcome) → Textless o → (w u : ℕ) → gave w u ≡ placed 0 o → Settled w o
+pub settled_anywhere : (o : Outcome) → Textless o → (w u : ℕ) → gave w u ≡ placed 0 o → Settled (Some w) o
 unfolding placed
-settled_anywhere (value null) h w u e = let q : w ≡ word_of Null = cc in record { told = λ n top. ap₂ gave q (sym (add-zero top)) }
-settled_anywhere (value (int z)) h w u e = let q : w ≡ word_of (Int z) = cc in record { told = λ n top. ap₂ gave q (sym (add-zero top)) }
+settled_anywhere (value null) h w u e = let q : w ≡ word_of Null = cc in settled w _ (λ top. ap₂ gave q (sym (add-zero top)))
+settled_anywhere (value (int z)) h w u e = let q : w ≡ word_of (Int z) = cc in settled w _ (λ top. ap₂ gave q (sym (add-zero top)))
 settled_anywhere (value (str b)) h w u e = absurd (h.no b refl)
-settled_anywhere (value binary) h w u e = let q : w ≡ word_of Binary = cc in record { told = λ n top. ap₂ gave q (sym (add-zero top)) }
+settled_anywhere (value binary) h w u e = let q : w ≡ word_of Binary = cc in settled w _ (λ top. ap₂ gave q (sym (add-zero top)))
 settled_anywhere (Outcome.refused n) h w u e = absurd (let z : ◌≡◌ {A = ℕ} 0 1 = cc in omega arith)

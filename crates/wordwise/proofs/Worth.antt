@@ -8,6 +8,7 @@ use lib.ListN.{length}
 use mir.Syntax.{w32}
 use mir.Val.{of_z}
 use mir.Facts.{Fits-of_z}
+use Rattle.std.specs.Prelude.{Some}
 use Rattle.cells.specs.Cell.{WellFormed, kind_of, word_of, ref_of, Inside}
 use Rattle.cells.specs.declared.ValueRef.{ValueRef}
 use Rattle.cells.specs.declared.ValueRef.TheVariants.{Null, Int, Str, Binary}
@@ -19,7 +20,7 @@ use Rattle.operators.specs.declared.Rules.{Rules}
 use Rattle.operators.proofs.Holding.{Holds, holds_truth, value_int32}
 use Rattle.conditions.specs.Ast.{decides, two_sided}
 use Rattle.conditions.proofs.Deciding.{holds_two_sided}
-use Rattle.wordwise.specs.Settled.{nothing, Settled, on_both}
+use Rattle.wordwise.specs.Settled.{Settled, on_both}
 
 -- an outcome is the value of a word, which is a well-formed cell and no text
 pub record Worth (stored : List ℕ) (r : ℕ) (o : Outcome) : Type 0 where
@@ -38,22 +39,22 @@ worth_cell stored c v s i e n r q =
     }
 
 -- a word that settles an outcome which a cell can hold is such a word
-pub worth : (stored : List ℕ) (m r : ℕ) (o : Outcome) → Holds m o → (r ≡ nothing → ⊥) → Settled r o → Worth stored r o
+pub worth : (stored : List ℕ) (m r : ℕ) (o : Outcome) → Holds m o → Settled (Some r) o → Worth stored r o
 unfolding placed Sized Inside to_value word_of
-worth stored m r (value null) h n t = let e = t.told n 0 in let q : r ≡ word_of Null = cc in worth_cell stored Null null tt tt refl (λ k. omega arith) r q
-worth stored m r (value (int z)) h n t =
-    let e = t.told n 0 in
+worth stored m r (value null) h t = let e = t.told r refl 0 in let q : r ≡ word_of Null = cc in worth_cell stored Null null tt tt refl (λ k. omega arith) r q
+worth stored m r (value (int z)) h t =
+    let e = t.told r refl 0 in
     let q : r ≡ word_of (Int z) = cc in
     let b : of_z w32 z < 2 ^ 32 = (Fits-of_z h.held).fits in
     worth_cell stored (Int z) (int z) h.held tt refl (λ k. let x : ⊥ = omega arith in x) r q
-worth stored m r (value (str b)) h n t =
-    let e = t.told n 0 in
-    let f = t.told n 1 in
+worth stored m r (value (str b)) h t =
+    let e = t.told r refl 0 in
+    let f = t.told r refl 1 in
     let q : r ≡ word_of (Str 0 (length b)) = cc in
     let s : r ≡ word_of (Str 1 (length b)) = cc in
     absurd (let x : ⊥ = omega arith in x)
-worth stored m r (value binary) h n t = let e = t.told n 0 in let q : r ≡ word_of Binary = cc in worth_cell stored Binary binary tt tt refl (λ k. omega arith) r q
-worth stored m r (Outcome.refused x) h n t = absurd (let e = t.told n 0 in let z : ◌≡◌ {A = ℕ} 0 1 = cc in omega arith)
+worth stored m r (value binary) h t = let e = t.told r refl 0 in let q : r ≡ word_of Binary = cc in worth_cell stored Binary binary tt tt refl (λ k. omega arith) r q
+worth stored m r (Outcome.refused x) h t = absurd (let e = t.told r refl 0 in let z : ◌≡◌ {A = ℕ} 0 1 = cc in omega arith)
 
 -- an operator both of whose operands have a value holds no number and no text that is too great
 pub holds_both : (R : Rules) (op : ℕ) (t : List ℕ) (a b : ℕ) → Holds R.limit (on_both R op (value_of t a) (value_of t b))

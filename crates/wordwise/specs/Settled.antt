@@ -1,25 +1,21 @@
 -- What a word that was worked out from two words says. Assumes nothing: these are definitions.
-use Rattle.std.specs.Prelude.{ℕ, ◌-◌, ◌^◌, ◌≤◌, ◌<◌, ◌≡◌, cond, List, length}
+use Rattle.std.specs.Prelude.{ℕ, ◌≤◌, ◌<◌, ◌≡◌, cond, List, length, Option, Some}
 use Rattle.cells.specs.Cell.{WellFormed, kind_of}
 use Rattle.values.specs.Value.{Value, value_of, to_bool, from_bool}
 use Rattle.integers.specs.Outcome.{Outcome, value, gave, placed}
 use Rattle.operators.specs.declared.Rules.{Rules}
 use Rattle.conditions.specs.Ast.{decides, two_sided}
 
--- the greatest word, which is no cell's: nothing was worked out
-abbrev pub nothing : ℕ
-nothing = 2 ^ 64 - 1
-
--- any other word is the cell of the outcome, which adds no text
-pub record Settled (r : ℕ) (o : Outcome) : Type 0 where
-  pub told : (r ≡ nothing → ⊥) → (top : ℕ) → gave r top ≡ placed top o
+-- a word that was worked out is the cell of the outcome, which adds no text
+pub record Settled (r : Option ℕ) (o : Outcome) : Type 0 where
+  pub told : (word : ℕ) → r ≡ Some word → (top : ℕ) → gave word top ≡ placed top o
 
 -- Ast::eval of a two-sided operator both of whose operands have a value: the left one decides, or else both count
 unfoldable pub on_both : Rules → ℕ → Value → Value → Outcome
 on_both R op v w = cond (decides op v) (value (from_bool (to_bool v))) (two_sided R op v w)
 
 -- a word that was worked out from the words of two cells, whatever text they are read in
-pub record GivesBoth (op a b r : ℕ) : Type 0 where
+pub record GivesBoth (op a b : ℕ) (r : Option ℕ) : Type 0 where
   pub settled : (R : Rules) (stored : List ℕ) → WellFormed (length stored) a → WellFormed (length stored) b → Settled r (on_both R op (value_of stored a) (value_of stored b))
 
 -- two words of Ints

@@ -9,10 +9,10 @@ use Rattle.slices.specs.Splice.{Wrote}
 use Rattle.refusals.specs.Stop.{Stop, never, stop_of}
 use Rattle.refusals.specs.declared.Refusal.{Refusal}
 use Rattle.writing.specs.Writing.{count, WrittenIs}
-use Rattle.writing.specs.declared.Written.TheVariants.{Count, Refused}
+use Rattle.std.specs.Prelude.{Ok, Err}
 
 -- a refusal leaves the output alone
-pub refused_is : (out : List ℕ) (s : Stop) (n : ℕ) (result : List ℕ) (r : Refusal) → s ≡ stop_of r → WrittenIs out out (Refused r) s n result
+pub refused_is : (out : List ℕ) (s : Stop) (n : ℕ) (result : List ℕ) (r : Refusal) → s ≡ stop_of r → WrittenIs out out (Err r) s n result
 refused_is out s n result r e = record {
   says = rw e;
   output = rw e;
@@ -20,7 +20,7 @@ refused_is out s n result r e = record {
 }
 
 -- a result that was written at the start
-pub wrote_start : (before after result : List ℕ) (p : ℕ) → Wrote before 0 result p after → WrittenIs before after (Count p) never (length result) result
+pub wrote_start : (before after result : List ℕ) (p : ℕ) → Wrote before 0 result p after → WrittenIs before after (Ok p) never (length result) result
 wrote_start before after result p w = record {
   says = ap (λ n. count n) (w.place ∙ zero-add (length result));
   output = w.list;

@@ -4,8 +4,8 @@ use Rattle.std.specs.Prelude.{ℕ, ◌≤◌, ◌≡◌, List, length}
 use Rattle.slices.specs.Splice.{splice}
 use Rattle.refusals.specs.Told.{told}
 use Rattle.refusals.specs.Stop.{Stop, never, stop}
-use Rattle.writing.specs.declared.Written.{Written}
-use Rattle.writing.specs.declared.Written.TheVariants.{Count, Refused}
+use Rattle.std.specs.Prelude.{Result, Ok, Err}
+use Rattle.refusals.specs.declared.Refusal.{Refusal}
 
 -- a count, or a refusal's number and place
 pub data Report : Type 0 where
@@ -13,9 +13,9 @@ pub data Report : Type 0 where
   refused : ℕ → ℕ → Report
 
 -- what an answer tells
-abbrev pub report_of : Written → Report
-report_of (Count n) = count n
-report_of (Refused r) = Report.refused (told r).number (told r).place
+abbrev pub report_of : Result ℕ Refusal → Report
+report_of (Ok n) = count n
+report_of (Err r) = Report.refused (told r).number (told r).place
 
 -- what is to be told of a call that wrote so much unless it was stopped
 abbrev pub report : Stop → ℕ → Report
@@ -28,7 +28,7 @@ output_after never before result = splice before 0 result
 output_after (stop number place) before result = before
 
 -- the whole of what such a call gives: its answer, and the output after it; an accepted call had room for its result
-pub record WrittenIs (before after : List ℕ) (answer : Written) (s : Stop) (n : ℕ) (result : List ℕ) : Type 0 where
+pub record WrittenIs (before after : List ℕ) (answer : Result ℕ Refusal) (s : Stop) (n : ℕ) (result : List ℕ) : Type 0 where
   pub says : report_of answer ≡ report s n
   pub output : after ≡ output_after s before result
   pub room : s ≡ never → length result ≤ length before

@@ -7,17 +7,10 @@ ghost use Rattle.writing.specs.Writing.{WrittenIs};
 
 use refusals::Refusal;
 
-// How much was written, or a refusal.
-#[derive(Clone, Copy)]
-pub enum Written {
-    Count(usize),
-    Refused(Refusal),
-}
-
 // Writes bytes at the start of the output.
-pub fn write_bytes(res: &[u8], out: &mut [u8]) -> Written
+pub fn write_bytes(res: &[u8], out: &mut [u8]) -> Result<usize, Refusal>
     requires { length res.now ≤ length out.old }
     ensures { WrittenIs out.old out.new result never (length res.now) res.now }
 {
-    Written::Count(slices::copy_bytes(res, out, 0))
+    Ok(slices::copy(res, out, 0))
 }

@@ -1,5 +1,6 @@
 -- `cells::bodies` meets its contract. Assumes nothing.
 use mathlib.Core.Path.{sym}
+use Rattle.std.proofs.Common.{rules}
 use Rattle.cells.specs.Cell.{bodies_of}
 use Rattle.cells.proofs.Words.{bodies_other}
 use Rattle.cells.proofs.bodies.Goals as goal
@@ -21,4 +22,4 @@ unfolding bodies_of
 returns-in-3 c = rw c.in-3.is
 
 pub returns-in_default : goal.returns-in_default
-returns-in_default c = sym (bodies_other _ c.in_default.in_default-own.rest.0.0.0.1 c.in_default.in_default-own.rest.0.0.1 c.in_default.in_default-own.rest.0.1 c.in_default.in_default-own.rest.1)
+returns-in_default c = sym (bodies_other _ (search rules) (search rules) (search rules) (search rules))

@@ -8,6 +8,6 @@ use Rattle.conditions.proofs.truth.Goals as goal
 
 pub returns : goal.returns
 returns c = λ t h.
-    let r = c.from_word.ensures in
-    let i : Inside (length t) c.from_word.result = rw r (well_inside _ _ h) in
+    let r = c.from.ensures in
+    let i : Inside (length t) c.from.result = rw r (well_inside _ _ h) in
     c.to_bool.ensures t i ∙ ap (λ v. to_bool (to_value t v)) r

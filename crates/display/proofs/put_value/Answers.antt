@@ -1,5 +1,6 @@
 -- `display::put_value` meets its contract. Assumes nothing.
 use native.Mathlib.Nat.{add-sub_cancel_left}
+use Rattle.std.proofs.Common.{rules}
 use Rattle.display.proofs.Shown.{shown_int, shown_text, shown_binary, shown_null, text_inside}
 use Rattle.display.proofs.put_value.Goals as goal
 
@@ -16,4 +17,4 @@ pub returns-in-3 : goal.returns-in-3
 returns-in-3 c = rw (shown_binary _ _ c.in-3.is) c.put_bytes.ensures
 
 pub returns-in_default : goal.returns-in_default
-returns-in_default c = rw (shown_null _ _ c.in_default.in_default-own.rest.0.0.1 c.in_default.in_default-own.rest.0.1 c.in_default.in_default-own.rest.1) c.put_bytes-in_default.ensures
+returns-in_default c = rw (shown_null c.args.stored.now c.args.word (search rules) (search rules) (search rules)) c.put_bytes-in_default.ensures

@@ -11,7 +11,7 @@ use borrow.Author.Rules.{rules}
 use Rattle.doubles.proofs.check_values.Goals as goal
 
 pub loop-i-init : goal.loop-i-init
-loop-i-init c = (search rules, refl)
+loop-i-init c = refl
 
 pub nonzero_rem-rule : goal.nonzero_rem-rule
 nonzero_rem-rule c = omega (arith, c.requires.1)
@@ -39,12 +39,12 @@ bounds-columns-i c =
 pub returns-then-not-is_valid_value : goal.returns-then-not-is_valid_value
 returns-then-not-is_valid_value c =
     let inside : c.loop-i.i < length c.args.rows.now = omega (arith, c.loop-i-test.true) in
-    sym (c.loop-i.invariant.1 ∙ values_stopped _ _ _ _ inside c.requires.2 _ c.from_word.ensures _ c.is_valid_value.ensures (ap not c.if-not-is_valid_value.true))
+    sym (c.loop-i.invariant ∙ values_stopped _ _ _ _ inside c.requires.2 _ c.from.ensures _ c.is_valid_value.ensures (ap not c.if-not-is_valid_value.true))
 
 pub loop-i-preserved : goal.loop-i-preserved
 loop-i-preserved c =
     let inside : c.loop-i.i < length c.args.rows.now = omega (arith, c.loop-i-test.true) in
-    (search rules, c.loop-i.invariant.1 ∙ values_on _ _ _ _ inside c.requires.2 _ c.from_word.ensures _ c.is_valid_value.ensures (ap not c.if-not-is_valid_value.false))
+    (c.loop-i.invariant ∙ values_on _ _ _ _ inside c.requires.2 _ c.from.ensures _ c.is_valid_value.ensures (ap not c.if-not-is_valid_value.false))
 
 pub returns : goal.returns
-returns c = sym (c.loop-i.invariant.1 ∙ values_end _ _ _ _ c.loop-i-test.false)
+returns c = sym (c.loop-i.invariant ∙ values_end _ _ _ _ c.loop-i-test.false)

@@ -4,14 +4,13 @@ use mathlib.Core.Path.{refl}
 use native.Mathlib.Omega.{arith}
 use borrow.Author.Count.{below_none}
 use Rattle.doubles.proofs.Searching.{cell_there, all_equal, passed, next_column}
-use borrow.Author.Rules.{rules}
 use Rattle.doubles.proofs.equal_row.Goals as goal
 
 pub rows-init : goal.rows-init
-rows-init c = (search rules, below_none _)
+rows-init c = below_none _
 
 pub loop-column-init : goal.loop-column-init
-loop-column-init c = (omega arith, c.rows-test.true, omega arith, c.rows.invariant.1, refl)
+loop-column-init c = refl
 
 pub overflow_mul-column : goal.overflow_mul-column
 overflow_mul-column c = omega (arith, c.requires.paired)
@@ -26,16 +25,16 @@ pub bounds-columns-column : goal.bounds-columns-column
 bounds-columns-column c = omega (arith, c.requires.paired)
 
 pub overflow_mul-i : goal.overflow_mul-i
-overflow_mul-i c = omega (arith, cell_there c.requires c.loop-column.i c.loop-column.invariant.1 c.loop-column.column c.loop-column-test.true)
+overflow_mul-i c = omega (arith, cell_there c.requires c.rows.i c.rows-test.true c.loop-column.column c.loop-column-test.true)
 
 pub overflow_add-i : goal.overflow_add-i
-overflow_add-i c = omega (arith, cell_there c.requires c.loop-column.i c.loop-column.invariant.1 c.loop-column.column c.loop-column-test.true)
+overflow_add-i c = omega (arith, cell_there c.requires c.rows.i c.rows-test.true c.loop-column.column c.loop-column-test.true)
 
 pub offset_bounds-rows-i : goal.offset_bounds-rows-i
-offset_bounds-rows-i c = omega (arith, cell_there c.requires c.loop-column.i c.loop-column.invariant.1 c.loop-column.column c.loop-column-test.true)
+offset_bounds-rows-i c = omega (arith, cell_there c.requires c.rows.i c.rows-test.true c.loop-column.column c.loop-column-test.true)
 
 pub bounds-rows-i : goal.bounds-rows-i
-bounds-rows-i c = omega (arith, cell_there c.requires c.loop-column.i c.loop-column.invariant.1 c.loop-column.column c.loop-column-test.true)
+bounds-rows-i c = omega (arith, cell_there c.requires c.rows.i c.rows-test.true c.loop-column.column c.loop-column-test.true)
 
 pub offset_bounds-row-column : goal.offset_bounds-row-column
 offset_bounds-row-column c = omega (arith, c.requires.full)
@@ -45,18 +44,21 @@ bounds-row-column c = omega (arith, c.requires.full)
 
 pub compare_column-requires : goal.compare_column-requires
 compare_column-requires c = (
-  c.requires.rows_sound.cells _ (cell_there c.requires _ c.loop-column.invariant.1 _ c.loop-column-test.true),
+  c.requires.rows_sound.cells _ (cell_there c.requires _ c.rows-test.true _ c.loop-column-test.true),
   c.requires.row_sound.cells _ (omega (arith, c.requires.full)),
 )
 
 pub rows-preserved : goal.rows-preserved
-rows-preserved c = (omega arith, passed _ _ _ _ c.requires c.loop-column.invariant.1 c.loop-column-test.true c.loop-column.invariant.4 _ c.compare_column.ensures c.in_default.not-Equal c.loop-column.invariant.3)
+rows-preserved c = passed _ _ _ _ c.requires c.rows-test.true c.loop-column-test.true c.loop-column.invariant _ c.compare_column.ensures c.in_default.not-Equal c.rows.invariant
 
 pub loop-column-preserved : goal.loop-column-preserved
-loop-column-preserved c = (c.loop-column.invariant.0, c.loop-column.invariant.1, omega arith, c.loop-column.invariant.3, next_column _ _ _ _ c.requires c.loop-column.invariant.1 c.loop-column-test.true c.loop-column.invariant.4 _ c.compare_column.ensures c.in-Equal.is)
+loop-column-preserved c = next_column _ _ _ _ c.requires c.rows-test.true c.loop-column-test.true c.loop-column.invariant _ c.compare_column.ensures c.in-Equal.is
 
-pub returns-after-rows : goal.returns-after-rows
-returns-after-rows c = record { within = c.rows.invariant.0; none_before = c.rows.invariant.1; equal = λ h. absurd (let z : ⊥ = omega (arith, c.rows-test.false) in z) }
+pub returns : goal.returns
+returns c = record { within = omega arith; none_before = λ k l. c.rows.invariant k (omega arith); equal = λ h. absurd (let z : ⊥ = omega arith in z) }
 
-pub returns-after-loop-column : goal.returns-after-loop-column
-returns-after-loop-column c = record { within = omega arith; none_before = c.loop-column.invariant.3; equal = λ _. all_equal _ _ _ _ c.requires c.loop-column.invariant.1 c.loop-column-test.false c.loop-column.invariant.4 }
+pub returns-in-rows : goal.returns-in-rows
+returns-in-rows c = (
+  record { within = omega arith; none_before = c.rows.invariant; equal = λ _. all_equal _ _ _ _ c.requires c.rows-test.true c.loop-column-test.false c.loop-column.invariant },
+  c.rows-test.true,
+)

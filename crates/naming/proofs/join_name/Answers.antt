@@ -11,10 +11,10 @@ pub returns-then-long-gt255 : goal.returns-then-long-gt255
 returns-then-long-gt255 c = name_refused c.args.table.now c.args.text.now _ _ c.requires c.if-table-eq0.false (omega (arith, c.if-long-gt255.true))
 
 pub copy_up-end-requires : goal.copy_up-end-requires
-copy_up-end-requires c = simp length-set (column_room c.args.table.now c.args.text.now _ _ c.requires c.if-table-eq0.false c.if-long-gt255.false _ _ c.copy_bytes-dot.ensures)
+copy_up-end-requires c = simp length-set (column_room c.args.table.now c.args.text.now _ _ c.requires c.if-table-eq0.false c.if-long-gt255.false _ _ c.copy-dot.ensures)
 
 pub shape_of-text : goal.shape_of-text
-shape_of-text c = omega (arith, simp length-set at c.copy_up-end.auto.text, c.copy_bytes-dot.auto.out)
+shape_of-text c = omega (arith, simp length-set at c.copy_up-end.auto.text, c.copy-dot.auto.out)
 
 pub returns : goal.returns
-returns c = name_appended c.args.table.now c.args.text.now _ _ c.requires c.if-table-eq0.false c.if-long-gt255.false _ _ c.copy_bytes-dot.ensures _ _ c.copy_up-end.ensures
+returns c = name_appended c.args.table.now c.args.text.now _ _ c.requires c.if-table-eq0.false c.if-long-gt255.false _ _ c.copy-dot.ensures _ _ c.copy_up-end.ensures

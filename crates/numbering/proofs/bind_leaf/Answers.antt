@@ -1,11 +1,9 @@
 -- `numbering::bind_leaf` meets its contract. Assumes nothing.
-use mathlib.Core.Path.{◌≡◌, ◌∙◌}
+use mathlib.Core.Path.{refl}
 use native.Mathlib.Omega.{arith}
 use native.Mathlib.Nat.{add-sub_cancel_left}
 use Rattle.cells.specs.Cell.{kind_of}
-use Rattle.columns.specs.Column.{found_of}
 use Rattle.nodes.proofs.Bodies.{body_short}
-use Rattle.numbering.specs.Number.{column_of}
 use Rattle.numbering.proofs.Leaves.{leaf_space, other_binds, name_inside, name_missing, number_small, name_binds}
 use borrow.Author.Rules.{rules}
 use Rattle.numbering.proofs.bind_leaf.Goals as goal
@@ -22,23 +20,14 @@ returns-then-kind-ne3 c = other_binds c.requires c.if-kind-ne3.true _ _ _ c.body
 pub slice_bounds-find_column-end : goal.slice_bounds-find_column-end
 slice_bounds-find_column-end c = name_inside c.requires c.if-kind-ne3.false
 
+pub returns-in_default : goal.returns-in_default
+returns-in_default c = name_missing c.requires c.if-kind-ne3.false _ (rw add-sub_cancel_left at c.in_default.ensures) refl
+
 pub overflow_add-bound : goal.overflow_add-bound
-overflow_add-bound c =
-    let looked : found_of c.find_column.result ≡ column_of c.args.stored.now c.args.columns.now c.args.word = c.find_column.ensures ∙ (rw add-sub_cancel_left) in
-    let h = number_small c.requires c.if-kind-ne3.false _ looked _ c.in-At.is in search rules
+overflow_add-bound c = let h = number_small c.requires c.if-kind-ne3.false _ (rw add-sub_cancel_left at c.in-Some.ensures) _ refl in search rules
 
-pub write_leaf-requires-in-At : goal.write_leaf-requires-in-At
-write_leaf-requires-in-At c = leaf_space c.requires _
+pub write_leaf-requires-2 : goal.write_leaf-requires-2
+write_leaf-requires-2 c = leaf_space c.requires _
 
-pub overflow_add-result : goal.overflow_add-result
-overflow_add-result c = omega (arith, c.requires.early)
-
-pub returns-in-Nothing : goal.returns-in-Nothing
-returns-in-Nothing c =
-    let looked : found_of c.find_column.result ≡ column_of c.args.stored.now c.args.columns.now c.args.word = c.find_column.ensures ∙ (rw add-sub_cancel_left) in
-    name_missing c.requires c.if-kind-ne3.false _ looked c.in-Nothing.is
-
-pub returns-in-At : goal.returns-in-At
-returns-in-At c =
-    let looked : found_of c.find_column.result ≡ column_of c.args.stored.now c.args.columns.now c.args.word = c.find_column.ensures ∙ (rw add-sub_cancel_left) in
-    name_binds c.requires c.if-kind-ne3.false _ looked _ c.in-At.is _ _ c.write_leaf-in-At.ensures
+pub returns : goal.returns
+returns c = name_binds c.requires c.if-kind-ne3.false _ (rw add-sub_cancel_left at c.in-Some.ensures) _ refl _ _ c.write_leaf-2.ensures

@@ -16,8 +16,8 @@ use Rattle.operators.proofs.unary.Goals as goal
 pub returns-then-op-eq18 : goal.returns-then-op-eq18
 unfolding unary_of
 returns-then-op-eq18 c = λ t h.
-    let r = c.from_word.ensures in
-    let i : Inside (length t) c.from_word.result = rw r (well_inside _ _ h) in
+    let r = c.from.ensures in
+    let i : Inside (length t) c.from.result = rw r (well_inside _ _ h) in
     let e = c.to_bool.ensures t i ∙ ap (λ v. to_bool (to_value t v)) r in
     rw c.if-op-eq18.true (c.flag.ensures c.args.top ∙ ap (λ b. placed c.args.top (value (from_bool (not b)))) e)
 

@@ -1,10 +1,7 @@
 -- `postfix::write_little` meets its contract. The loop's invariant: i bytes are written, and rest is what is left of the number.
 -- Assumes nothing.
-use Rattle.postfix.proofs.Writing.{writing_start, writing_turn, writing_end}
+use Rattle.postfix.proofs.Writing.{writing_turn, writing_end}
 use Rattle.postfix.proofs.write_little.Goals as goal
-
-pub loop-i-init : goal.loop-i-init
-loop-i-init c = writing_start _ _ _ _
 
 pub loop-i-preserved : goal.loop-i-preserved
 loop-i-preserved c = writing_turn c.loop-i.invariant c.requires c.loop-i-test.true

@@ -1,11 +1,7 @@
 -- `postfix::write_little` meets its contract. The loop's invariant: i bytes are written, and rest is what is left of the number.
 -- Assumes nothing.
-use Prim.Native.Nat.{◌-◌}
 use Rattle.postfix.proofs.Writing.{Writing}
 use Rattle.postfix.proofs.write_little.Given as goal
 
 abbrev pub invariant-loop-i : goal.invariant-loop-i
 invariant-loop-i l = Writing l.n l.x l.initial.out l.at l.out l.rest l.i
-
-abbrev pub decreases-loop-i : goal.decreases-loop-i
-decreases-loop-i l = l.n - l.i

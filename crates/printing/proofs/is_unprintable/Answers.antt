@@ -2,11 +2,8 @@
 use mathlib.Core.Path.{sym, ◌∙◌}
 use native.Mathlib.Nat.{add-sub_cancel_left}
 use native.Mathlib.Omega.{arith}
-use Rattle.printing.proofs.Texts.{other_kind, body_inside, word_ends, word_high}
+use Rattle.printing.proofs.Texts.{body_inside, word_ends, word_high}
 use Rattle.printing.proofs.is_unprintable.Goals as goal
-
-pub returns-then-wide-ne2 : goal.returns-then-wide-ne2
-returns-then-wide-ne2 c = sym (other_kind c.args.stored.now c.args.b.now c.args.at (λ e. c.if-wide-ne2.true (c.wide.ensures.0 ∙ e)))
 
 pub leaf_word-word-requires : goal.leaf_word-word-requires
 leaf_word-word-requires c = (body_inside c.args.stored.now c.args.b.now c.args.at (sym c.wide.ensures.0 ∙ c.if-wide-ne2.false) c.requires.1, omega arith)

@@ -1,6 +1,6 @@
 -- `quick::operand` and `quick::word_of` meet their contracts, by recursion with falling depth: the measures are 2 * depth + 1 and
 -- 2 * depth. Each word is one law of Walking. Assumes nothing.
-use mathlib.Core.Path.{refl, sym, ◌∙◌}
+use mathlib.Core.Path.{sym, ◌∙◌}
 use native.Mathlib.Omega.{arith}
 use borrow.Author.Rules.{scaled_Fits}
 use Rattle.conditions.proofs.NodeKind.{node_leaf, node_one, node_two}
@@ -8,18 +8,6 @@ use Rattle.conditions.proofs.Descent.{in_table, deep, sound_one, sound_two}
 use Rattle.quick.proofs.Walking.{leaf_sound, leaf_found, one_stands, one_found, left_stands, right_stands, left_found, two_found}
 use Rattle.wordwise.proofs.Settling.{flagged, both_truth}
 use Rattle.quick.proofs.+operand_word_of.Goals as goal
-
-pub operand-shallow-word-requires : goal.operand-shallow-word-requires
-operand-shallow-word-requires t c = c.requires
-
-pub operand-returns-then-word : goal.operand-returns-then-word
-operand-returns-then-word t c = λ n. c.shallow-word.ensures n
-
-pub operand-word_of-requires : goal.operand-word_of-requires
-operand-word_of-requires t c = (omega (arith, c.decreases), c.requires)
-
-pub operand-returns : goal.operand-returns
-operand-returns t c = c.word_of.ensures
 
 pub word_of-offset_bounds-nodes-k : goal.word_of-offset_bounds-nodes-k
 word_of-offset_bounds-nodes-k t c = scaled_Fits _ _ 8 (in_table _ _ _ _ _ c.requires.sound) c.well_formed.0.1
@@ -31,7 +19,7 @@ pub word_of-leaf-requires : goal.word_of-leaf-requires
 word_of-leaf-requires t c = leaf_sound _ _ _ _ _ c.requires _ (node_leaf _ c.if-op-lt16.true)
 
 pub word_of-returns-then-op-lt16 : goal.word_of-returns-then-op-lt16
-word_of-returns-then-op-lt16 t c = λ n. leaf_found _ _ _ _ _ c.requires _ _ (node_leaf _ c.if-op-lt16.true) c.leaf.ensures
+word_of-returns-then-op-lt16 t c = leaf_found _ _ _ _ _ c.requires _ _ (node_leaf _ c.if-op-lt16.true) c.leaf.ensures
 
 pub word_of-overflow_sub-k : goal.word_of-overflow_sub-k
 word_of-overflow_sub-k t c = (sound_one _ _ _ _ _ c.requires.sound (node_one _ c.if-op-lt16.false c.if-op-lt32.true)).below
@@ -39,29 +27,23 @@ word_of-overflow_sub-k t c = (sound_one _ _ _ _ _ c.requires.sound (node_one _ c
 pub word_of-overflow_sub-depth : goal.word_of-overflow_sub-depth
 word_of-overflow_sub-depth t c = deep _ _ _ _ _ c.requires.sound
 
-pub word_of-operand-a-requires : goal.word_of-operand-a-requires
-word_of-operand-a-requires t c = (omega (arith, c.decreases, deep _ _ _ _ _ c.requires.sound), one_stands _ _ _ _ _ c.requires _ (node_one _ c.if-op-lt16.false c.if-op-lt32.true))
-
-pub word_of-returns-then-a : goal.word_of-returns-then-a
-word_of-returns-then-a t c = λ n. absurd (n refl)
+pub word_of-operand-requires : goal.word_of-operand-requires
+word_of-operand-requires t c = (omega (arith, c.decreases, deep _ _ _ _ _ c.requires.sound), one_stands _ _ _ _ _ c.requires _ (node_one _ c.if-op-lt16.false c.if-op-lt32.true))
 
 pub word_of-one-requires : goal.word_of-one-requires
 word_of-one-requires t c = (sound_one _ _ _ _ _ c.requires.sound (node_one _ c.if-op-lt16.false c.if-op-lt32.true)).known
 
 pub word_of-returns-then-op-lt32 : goal.word_of-returns-then-op-lt32
-word_of-returns-then-op-lt32 t c = λ n. one_found _ _ _ _ _ c.requires _ (node_one _ c.if-op-lt16.false c.if-op-lt32.true) _ _ (c.operand-a.ensures c.if-a.false) n c.one.ensures
+word_of-returns-then-op-lt32 t c = one_found _ _ _ _ _ c.requires _ (node_one _ c.if-op-lt16.false c.if-op-lt32.true) _ _ c.in_ok-a.ensures c.one.ensures
 
 pub word_of-overflow_sub-depth-2 : goal.word_of-overflow_sub-depth-2
 word_of-overflow_sub-depth-2 t c = deep _ _ _ _ _ c.requires.sound
 
-pub word_of-operand-a-requires-2 : goal.word_of-operand-a-requires-2
-word_of-operand-a-requires-2 t c = (omega (arith, c.decreases, deep _ _ _ _ _ c.requires.sound), left_stands _ _ _ _ _ c.requires _ _ (node_two _ c.if-op-lt32.false))
-
-pub word_of-returns-then-a-2 : goal.word_of-returns-then-a-2
-word_of-returns-then-a-2 t c = λ n. absurd (n refl)
+pub word_of-operand-requires-2 : goal.word_of-operand-requires-2
+word_of-operand-requires-2 t c = (omega (arith, c.decreases, deep _ _ _ _ _ c.requires.sound), left_stands _ _ _ _ _ c.requires _ _ (node_two _ c.if-op-lt32.false))
 
 pub word_of-returns-then-decided : goal.word_of-returns-then-decided
-word_of-returns-then-decided t c = λ n. let g = (c.operand-a-2.ensures c.if-a-2.false) in left_found _ _ _ _ _ c.requires _ _ (node_two _ c.if-op-lt32.false) _ g _ c.truth.result (sym (c.decided.ensures _ g.within) ∙ c.if-decided.true) (c.truth.ensures _ g.within) n c.flag.ensures
+word_of-returns-then-decided t c = left_found _ _ _ _ _ c.requires _ _ (node_two _ c.if-op-lt32.false) _ c.in_ok-a-2.ensures _ c.truth.result (sym (c.decided.ensures _ c.in_ok-a-2.ensures.within) ∙ c.if-decided.true) (c.truth.ensures _ c.in_ok-a-2.ensures.within) c.flag.ensures
 
 pub word_of-overflow_sub-k-2 : goal.word_of-overflow_sub-k-2
 word_of-overflow_sub-k-2 t c = (sound_two _ _ _ _ _ c.requires.sound (node_two _ c.if-op-lt32.false)).right_below
@@ -69,17 +51,11 @@ word_of-overflow_sub-k-2 t c = (sound_two _ _ _ _ _ c.requires.sound (node_two _
 pub word_of-overflow_sub-depth-3 : goal.word_of-overflow_sub-depth-3
 word_of-overflow_sub-depth-3 t c = deep _ _ _ _ _ c.requires.sound
 
-pub word_of-operand-b-requires : goal.word_of-operand-b-requires
-word_of-operand-b-requires t c = (omega (arith, c.decreases, deep _ _ _ _ _ c.requires.sound), right_stands _ _ _ _ _ c.requires _ _ (node_two _ c.if-op-lt32.false))
-
-pub word_of-returns-then-b : goal.word_of-returns-then-b
-word_of-returns-then-b t c = λ n. absurd (n refl)
+pub word_of-operand-requires-3 : goal.word_of-operand-requires-3
+word_of-operand-requires-3 t c = (omega (arith, c.decreases, deep _ _ _ _ _ c.requires.sound), right_stands _ _ _ _ _ c.requires _ _ (node_two _ c.if-op-lt32.false))
 
 pub word_of-returns-then-op-ge47 : goal.word_of-returns-then-op-ge47
-word_of-returns-then-op-ge47 t c = λ n. let g = (c.operand-a-2.ensures c.if-a-2.false) in let h = (c.operand-b.ensures c.if-b.false) in two_found _ _ _ _ _ c.requires _ _ (node_two _ c.if-op-lt32.false) _ g _ _ h n (λ R. flagged _ _ _ c.flag-then-op-ge47.ensures (both_truth R _ _ _ _ (sym (c.decided.ensures _ g.within) ∙ c.if-decided.false) c.if-op-ge47.true (c.truth-then-op-ge47.ensures _ h.within)))
-
-pub word_of-two-requires : goal.word_of-two-requires
-word_of-two-requires t c = ((c.operand-a-2.ensures c.if-a-2.false).within, (c.operand-b.ensures c.if-b.false).within)
+word_of-returns-then-op-ge47 t c = two_found _ _ _ _ _ c.requires _ _ (node_two _ c.if-op-lt32.false) _ c.in_ok-a-2.ensures _ _ c.in_ok-b.ensures (λ R. flagged _ _ _ c.flag-then-op-ge47.ensures (both_truth R _ _ _ _ (sym (c.decided.ensures _ c.in_ok-a-2.ensures.within) ∙ c.if-decided.false) c.if-op-ge47.true (c.truth-then-op-ge47.ensures _ c.in_ok-b.ensures.within)))
 
 pub word_of-returns : goal.word_of-returns
-word_of-returns t c = λ n. two_found _ _ _ _ _ c.requires _ _ (node_two _ c.if-op-lt32.false) _ (c.operand-a-2.ensures c.if-a-2.false) _ _ (c.operand-b.ensures c.if-b.false) n c.two.ensures.is
+word_of-returns t c = two_found _ _ _ _ _ c.requires _ _ (node_two _ c.if-op-lt32.false) _ c.in_ok-a-2.ensures _ _ c.in_ok-b.ensures c.two.ensures.is

@@ -1,17 +1,11 @@
--- `quoting::has_high` meets its contract. The loop's invariant: such a byte stands in the text exactly if one stands in what is left of it.
--- Assumes nothing.
-use mathlib.Core.Path.{refl, sym, ◌∙◌}
-use Rattle.quoting.proofs.Quoting.{high_end, high_here, low_here}
+-- `quoting::has_high` meets its contract. Assumes nothing.
+use mathlib.Core.Path.{◌∙◌}
+use lib.Dec.{leb}
+use Rattle.std.proofs.Common.{rules, tests}
+use Rattle.std.proofs.lemmas.Iterator.{YieldsList-from_slice}
+use Rattle.std.proofs.lemmas.Iterator.Search.{any_from_yields_List}
+use Rattle.quoting.proofs.Quoting.{high_any}
 use Rattle.quoting.proofs.has_high.Goals as goal
 
-pub loop-i-init : goal.loop-i-init
-loop-i-init c = refl
-
-pub returns-then-bytes-i-ge128 : goal.returns-then-bytes-i-ge128
-returns-then-bytes-i-ge128 c = sym (c.loop-i.invariant ∙ high_here _ _ c.loop-i-test.true c.if-bytes-i-ge128.true)
-
-pub loop-i-preserved : goal.loop-i-preserved
-loop-i-preserved c = c.loop-i.invariant ∙ low_here _ _ c.loop-i-test.true c.if-bytes-i-ge128.false
-
 pub returns : goal.returns
-returns c = sym (c.loop-i.invariant ∙ high_end _ _ c.loop-i-test.false)
+returns c = any_from_yields_List (leb 128) _ _ _ c.any.ensures.ran (YieldsList-from_slice c.args.bytes.now c.iter.ensures.rest) (λ x b q k. search (rules, tests)) ∙ high_any c.args.bytes.now

@@ -1,5 +1,6 @@
 -- `quoting::letter_of` meets its contract. Assumes nothing.
 use borrow.Author.Tests.{ne_eqb}
+use Rattle.std.proofs.Common.{rules}
 use Rattle.quoting.specs.Quote.{escaped}
 use Rattle.quoting.proofs.letter_of.Goals as goal
 
@@ -29,5 +30,5 @@ returns-in-13 c = rw c.in-13.is
 
 pub returns-in_default : goal.returns-in_default
 unfolding escaped
-returns-in_default c = let n = c.in_default.in_default-own.rest in
-    rw (ne_eqb _ 34 n.0.0.0.0.0.1, ne_eqb _ 92 n.0.0.0.0.1, ne_eqb _ 0 n.0.0.0.1, ne_eqb _ 9 n.0.0.1, ne_eqb _ 10 n.0.1, ne_eqb _ 13 n.1)
+returns-in_default c =
+    rw (ne_eqb c.args.b 34 (search rules), ne_eqb c.args.b 92 (search rules), ne_eqb c.args.b 0 (search rules), ne_eqb c.args.b 9 (search rules), ne_eqb c.args.b 10 (search rules), ne_eqb c.args.b 13 (search rules))

@@ -5,20 +5,20 @@ use Rattle.puts.proofs.Putting.{partway_start, partway_turn, partway_end, partwa
 use Rattle.quoting.proofs.Quoting.{escaped_from, escaped_end, all_short}
 use Rattle.quoting.proofs.put_text.Goals as goal
 
-pub loop-i-init : goal.loop-i-init
-loop-i-init c = partway_start _ _ _
+pub loop-b-init : goal.loop-b-init
+loop-b-init c = partway_start _ _ _
 
 pub put_escaped-next-requires : goal.put_escaped-next-requires
-put_escaped-next-requires c = omega (arith, c.loop-i.invariant.place, all_short c.args.bytes.now, c.put_byte-next.ensures.place, c.requires)
+put_escaped-next-requires c = omega (arith, c.loop-b.invariant.place, all_short c.args.bytes.now, c.put_byte-next.ensures.place, c.requires)
 
-pub loop-i-preserved : goal.loop-i-preserved
-loop-i-preserved c = partway_turn c.loop-i.invariant _ (escaped_from _ _ c.loop-i-test.true) c.put_escaped-next.ensures
+pub loop-b-preserved : goal.loop-b-preserved
+loop-b-preserved c = partway_turn c.loop-b.invariant _ (escaped_from _ _ c.loop-b-test.true) c.put_escaped-next.ensures
 
 pub put_byte-requires : goal.put_byte-requires
-put_byte-requires c = omega (arith, c.loop-i.invariant.place, all_short c.args.bytes.now, c.put_byte-next.ensures.place, c.requires)
+put_byte-requires c = omega (arith, c.loop-b.invariant.place, all_short c.args.bytes.now, c.put_byte-next.ensures.place, c.requires)
 
 pub shape_of-out : goal.shape_of-out
-shape_of-out c = omega (arith, c.put_byte.auto.out, partway_length c.loop-i.invariant, c.put_byte-next.auto.out)
+shape_of-out c = omega (arith, c.put_byte.auto.out, partway_length c.loop-b.invariant, c.put_byte-next.auto.out)
 
 pub returns : goal.returns
-returns c = puts_then c.put_byte-next.ensures (puts_then (partway_end c.loop-i.invariant (escaped_end _ _ c.loop-i-test.false)) c.put_byte.ensures)
+returns c = puts_then c.put_byte-next.ensures (puts_then (partway_end c.loop-b.invariant (escaped_end _ _ c.loop-b-test.false)) c.put_byte.ensures)

@@ -1,10 +1,7 @@
 -- `setting::apply_sets` meets its contract. The loop's invariant: applying the sets that are left gives the result. Assumes nothing.
 use native.Mathlib.Omega.{arith}
-use Rattle.setting.proofs.Setting.{applying_start, applying_inside, applying_turn, applying_end}
+use Rattle.setting.proofs.Setting.{applying_inside, applying_turn, applying_end}
 use Rattle.setting.proofs.apply_sets.Goals as goal
-
-pub loop-k-init : goal.loop-k-init
-loop-k-init c = applying_start _ _ c.requires
 
 pub offset_bounds-row-sets : goal.offset_bounds-row-sets
 offset_bounds-row-sets c = omega (arith, applying_inside c.loop-k.invariant c.loop-k-test.true, c.loop-k.invariant.long, c.well_formed.1.0)
@@ -14,9 +11,6 @@ bounds-row-sets c = applying_inside c.loop-k.invariant c.loop-k-test.true
 
 pub loop-k-preserved : goal.loop-k-preserved
 loop-k-preserved c = applying_turn c.loop-k.invariant c.loop-k-test.true
-
-pub shape_of-row : goal.shape_of-row
-shape_of-row c = c.loop-k.invariant.long
 
 pub returns : goal.returns
 returns c = applying_end c.loop-k.invariant c.loop-k-test.false

@@ -1,11 +1,6 @@
 -- `setting::apply_sets` meets its contract. The loop's invariant: applying the sets that are left gives the result. Assumes nothing.
-use Prim.Native.Nat.{◌/◌, ◌-◌}
-use lib.ListN.{length}
 use Rattle.setting.proofs.Setting.{Applying}
 use Rattle.setting.proofs.apply_sets.Given as goal
 
 abbrev pub invariant-loop-k : goal.invariant-loop-k
 invariant-loop-k l = Applying l.sets l.initial.row l.row l.k
-
-abbrev pub decreases-loop-k : goal.decreases-loop-k
-decreases-loop-k l = length l.sets / 2 - l.k

@@ -4,11 +4,5 @@ use Rattle.straight.proofs.Reading.{read_column}
 use native.Mathlib.Omega.{arith}
 use Rattle.straight.proofs.column.Goals as goal
 
-pub returns-then-b-at-lt2 : goal.returns-then-b-at-lt2
-returns-then-b-at-lt2 c = λ n. absurd (n refl)
-
-pub returns-then-row-number : goal.returns-then-row-number
-returns-then-row-number c = λ n. absurd (n refl)
-
 pub returns : goal.returns
-returns c = λ n. read_column c.args.used c.args.at c.args.b.now c.args.row.now (λ i. (c.type_inv.b i).fits) c.wide-number.result _ c.requires.1 (omega (arith, c.if-b-at-lt2.false, c.requires.0)) c.wide-number.ensures.0 c.if-row-number.false refl
+returns c = read_column c.args.used c.args.at c.args.b.now c.args.row.now (λ i. (c.type_inv.b i).fits) c.wide-number.result _ c.requires.1 (omega (arith, c.if-b-at-lt2.false, c.requires.0)) c.wide-number.ensures.0 c.if-row-number.false refl

@@ -1,7 +1,6 @@
 -- `straight::is_fine` meets its contract. Assumes nothing.
 use mathlib.Core.Path.{sym, ◌∙◌}
 use borrow.Author.Tests.{not-true}
-use Rattle.refusals.proofs.Bools.{true_false}
 use Rattle.cells.proofs.Stops.{stop_never}
 use Rattle.straight.proofs.Reading.{int_fine}
 use Rattle.straight.proofs.is_fine.Goals as goal
@@ -11,6 +10,3 @@ returns-then-word-eq16777216 c = λ e. int_fine c.args.used c.args.word c.if-wor
 
 pub returns-then-is_cell : goal.returns-then-is_cell
 returns-then-is_cell c = λ e. stop_never _ _ 0 (sym c.is_cell.ensures ∙ c.if-is_cell.true) (sym c.reaches_beyond.ensures ∙ not-true _ e)
-
-pub returns : goal.returns
-returns c = λ e. true_false (sym e)

@@ -5,25 +5,13 @@ use Rattle.straight.proofs.Reading.{read_literal}
 use native.Mathlib.Omega.{arith}
 use Rattle.straight.proofs.leaf.Goals as goal
 
-pub column-requires : goal.column-requires
-column-requires c = (c.requires.0, c.requires.1 ∙ c.if-k-eq4.true)
-
-pub returns-then-k-eq4 : goal.returns-then-k-eq4
-returns-then-k-eq4 c = rw c.if-k-eq4.true c.column.ensures
-
-pub returns-then-b-at-lt5 : goal.returns-then-b-at-lt5
-returns-then-b-at-lt5 c = λ n. absurd (n refl)
-
 pub leaf_word-requires : goal.leaf_word-requires
 unfolding body_of
 leaf_word-requires c = (omega (arith, c.if-b-at-lt5.false, c.requires.0), omega arith)
 
 pub returns-then-k-eq1 : goal.returns-then-k-eq1
 unfolding body_of text_fits
-returns-then-k-eq1 c = λ n. rw c.if-k-eq1.true (read_literal c.args.used c.args.at c.args.b.now c.args.row.now (λ i. (c.type_inv.b i).fits) 1 _ (c.requires.1 ∙ c.if-k-eq1.true) (omega arith) (omega (arith, c.if-b-at-lt5.false, c.requires.0)) refl c.leaf_word.ensures)
-
-pub returns-then-b-at-lt7 : goal.returns-then-b-at-lt7
-returns-then-b-at-lt7 c = λ n. absurd (n refl)
+returns-then-k-eq1 c = rw c.if-k-eq1.true (read_literal c.args.used c.args.at c.args.b.now c.args.row.now (λ i. (c.type_inv.b i).fits) 1 _ (c.requires.1 ∙ c.if-k-eq1.true) (omega arith) (omega (arith, c.if-b-at-lt5.false, c.requires.0)) refl c.leaf_word.ensures)
 
 pub text_fits-requires : goal.text_fits-requires
 unfolding body_of
@@ -35,10 +23,7 @@ leaf_word-requires-then-text_fits c = (omega (arith, c.if-b-at-lt7.false, c.requ
 
 pub returns-then-text_fits : goal.returns-then-text_fits
 unfolding body_of
-returns-then-text_fits c = λ n. rw c.if-k-eq2.true (read_literal c.args.used c.args.at c.args.b.now c.args.row.now (λ i. (c.type_inv.b i).fits) 2 _ (c.requires.1 ∙ c.if-k-eq2.true) (omega arith) (omega (arith, c.if-b-at-lt7.false, c.requires.0)) (sym c.text_fits.ensures ∙ c.if-text_fits.true) c.leaf_word-then-text_fits.ensures)
-
-pub returns-then-k-eq2 : goal.returns-then-k-eq2
-returns-then-k-eq2 c = λ n. absurd (n refl)
+returns-then-text_fits c = rw c.if-k-eq2.true (read_literal c.args.used c.args.at c.args.b.now c.args.row.now (λ i. (c.type_inv.b i).fits) 2 _ (c.requires.1 ∙ c.if-k-eq2.true) (omega arith) (omega (arith, c.if-b-at-lt7.false, c.requires.0)) (sym c.text_fits.ensures ∙ c.if-text_fits.true) c.leaf_word-then-text_fits.ensures)
 
 pub leaf_word-requires-then-k-eq0 : goal.leaf_word-requires-then-k-eq0
 unfolding body_of
@@ -46,7 +31,4 @@ leaf_word-requires-then-k-eq0 c = (omega (arith, c.requires.0), omega arith)
 
 pub returns-then-k-eq0 : goal.returns-then-k-eq0
 unfolding body_of text_fits
-returns-then-k-eq0 c = λ n. rw c.if-k-eq0.true (read_literal c.args.used c.args.at c.args.b.now c.args.row.now (λ i. (c.type_inv.b i).fits) 0 _ (c.requires.1 ∙ c.if-k-eq0.true) (omega arith) (omega (arith, c.requires.0)) refl c.leaf_word-then-k-eq0.ensures)
-
-pub returns : goal.returns
-returns c = λ n. absurd (n refl)
+returns-then-k-eq0 c = rw c.if-k-eq0.true (read_literal c.args.used c.args.at c.args.b.now c.args.row.now (λ i. (c.type_inv.b i).fits) 0 _ (c.requires.1 ∙ c.if-k-eq0.true) (omega arith) (omega (arith, c.requires.0)) refl c.leaf_word-then-k-eq0.ensures)

@@ -1,15 +1,13 @@
 -- `values::compare` meets its contract. Assumes nothing.
-use borrow.Enum.Refused.{opened}
-use mathlib.Core.Path.{ap₂, ◌∙◌}
+use mathlib.Core.Path.{◌∙◌}
 use native.Mathlib.Nat.{add-sub_cancel_left}
 use lib.ListN.{length}
-use mir.Syntax.{w32}
-use mir.Val.{SFits}
-use mir.Facts.{to_z-of_z}
 use Rattle.cells.specs.Cell.{Inside}
 use Rattle.cells.specs.declared.ValueRef.TheVariants.{Str}
 use Rattle.values.specs.Value.{to_value}
-use Rattle.values.specs.Order.{order, by_ints}
+use Rattle.values.specs.Order.{order}
+use Rattle.std.proofs.Common.{rules}
+use Rattle.values.proofs.Ordered.{ints_held}
 use Rattle.values.proofs.ByKind.{null_other, int_other, str_other, binary_other}
 use native.Mathlib.Omega.{arith}
 use Rattle.values.proofs.compare.Goals as goal
@@ -30,7 +28,7 @@ returns-in-Null-b c = rw (c.in-Null.is, c.in-Null-b.is)
 
 pub returns-in_default : goal.returns-in_default
 unfolding to_value
-returns-in_default c = rw c.in-Null.is (null_other c.args.stored.now c.args.b (opened c.in_default.in_default-own.keys2))
+returns-in_default c = rw c.in-Null.is (null_other c.args.stored.now c.args.b c.in_default.not-Null)
 
 pub returns-in-Null-b-2 : goal.returns-in-Null-b-2
 unfolding order to_value
@@ -38,13 +36,11 @@ returns-in-Null-b-2 c = rw (c.in-Int.is, c.in-Null-b-2.is)
 
 pub returns-in-Int-b : goal.returns-in-Int-b
 unfolding order to_value
-returns-in-Int-b c = let h : SFits w32 c.in-Int.x = record { sfits = c.in-Int.known_told-1-own.given.0.1 } in
-    let k : SFits w32 c.in-Int-b.y = record { sfits = c.in-Int-b.known_told-in-Int-1-own.given.0.1 } in
-    rw (c.in-Int.is, c.in-Int-b.is) (c.compare_ints.ensures ∙ ap₂ by_ints (to_z-of_z h) (to_z-of_z k))
+returns-in-Int-b c = rw (c.in-Int.is, c.in-Int-b.is) (c.cmp.ensures ∙ ints_held c.in-Int.x c.in-Int-b.y (search rules) (search rules))
 
 pub returns-in_default-b : goal.returns-in_default-b
 unfolding to_value
-returns-in_default-b c = rw c.in-Int.is (int_other c.args.stored.now c.args.b _ c.in_default-b.in_default-b-own.keys3)
+returns-in_default-b c = rw c.in-Int.is (int_other c.args.stored.now _ c.args.b c.in_default-b.not-Null c.in_default-b.not-Int)
 
 pub returns-in-Str-b : goal.returns-in-Str-b
 unfolding order to_value
@@ -56,7 +52,7 @@ returns-in-Binary-b c = rw (c.in-Str.is, c.in-Binary-b.is)
 
 pub returns-in_default-b-2 : goal.returns-in_default-b-2
 unfolding to_value
-returns-in_default-b-2 c = rw c.in-Str.is (str_other c.args.stored.now c.args.b _ c.in_default-b-2.in_default-b-2-own.keys3)
+returns-in_default-b-2 c = rw c.in-Str.is (str_other c.args.stored.now _ c.args.b c.in_default-b-2.not-Str c.in_default-b-2.not-Binary)
 
 pub returns-in-Binary-b-2 : goal.returns-in-Binary-b-2
 unfolding order to_value
@@ -64,4 +60,4 @@ returns-in-Binary-b-2 c = rw (c.in-Binary.is, c.in-Binary-b-2.is)
 
 pub returns-in_default-b-3 : goal.returns-in_default-b-3
 unfolding to_value
-returns-in_default-b-3 c = rw c.in-Binary.is (binary_other c.args.stored.now c.args.b (opened c.in_default-b-3.in_default-b-3-own.keys2))
+returns-in_default-b-3 c = rw c.in-Binary.is (binary_other c.args.stored.now c.args.b c.in_default-b-3.not-Binary)

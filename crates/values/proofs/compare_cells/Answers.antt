@@ -1,10 +1,9 @@
 -- `values::compare_cells` meets its contract. Assumes nothing.
 use mathlib.Core.Path.{sym, ap₂, ◌∙◌}
-use mir.Syntax.{w32}
-use mir.Val.{to_z, of_z}
+use Rattle.std.proofs.Common.{rules}
 use Rattle.cells.proofs.Stops.{well_inside}
 use Rattle.values.specs.Order.{by_ints}
-use Rattle.values.proofs.Ordered.{order_self}
+use Rattle.values.proofs.Ordered.{order_self, ints_held}
 use Rattle.values.proofs.ByWord.{ints_order}
 use Rattle.values.proofs.compare_cells.Goals as goal
 
@@ -13,10 +12,10 @@ returns-then-a-b c = rw c.if-a-b.true (sym (order_self _))
 
 pub returns-then-b-eq1 : goal.returns-then-b-eq1
 returns-then-b-eq1 c = ints_order c.args.stored.now _ _ _ c.if-a-eq1.true c.if-b-eq1.true
-    (c.compare_ints.ensures ∙ ap₂ (λ x y. by_ints (to_z w32 (of_z w32 x)) (to_z w32 (of_z w32 y))) c.signed-x.ensures c.signed-y.ensures)
+    (c.cmp.ensures ∙ ints_held c.signed-x.result c.signed-y.result (search rules) (search rules) ∙ ap₂ by_ints c.signed-x.ensures c.signed-y.ensures)
 
 pub compare-requires : goal.compare-requires
-compare-requires c = (rw c.from_word.ensures (well_inside _ _ c.requires.0), rw c.from_word-2.ensures (well_inside _ _ c.requires.1))
+compare-requires c = (rw c.from.ensures (well_inside _ _ c.requires.0), rw c.from-2.ensures (well_inside _ _ c.requires.1))
 
 pub returns : goal.returns
-returns c = rw (← c.from_word.ensures, ← c.from_word-2.ensures) c.compare.ensures
+returns c = rw (← c.from.ensures, ← c.from-2.ensures) c.compare.ensures

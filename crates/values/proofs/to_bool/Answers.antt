@@ -1,6 +1,7 @@
 -- `values::to_bool` meets its contract. Assumes nothing.
 use Rattle.cells.specs.Cell.{Inside}
 use Rattle.values.specs.Value.{to_value, to_bool}
+use Rattle.std.proofs.Common.{rules}
 use Rattle.values.proofs.Truth.{nonzero_bits, nonempty_piece}
 use Rattle.values.proofs.to_bool.Goals as goal
 
@@ -10,7 +11,7 @@ returns-in-Null c = λ t h. rw c.in-Null.is
 
 pub returns-in-Int : goal.returns-in-Int
 unfolding to_value to_bool
-returns-in-Int c = λ t h. rw c.in-Int.is (nonzero_bits c.in-Int.number c.in-Int.known_told-1-own.given.0.1)
+returns-in-Int c = λ t h. rw c.in-Int.is (nonzero_bits c.in-Int.number (search rules))
 
 pub returns-in-Str : goal.returns-in-Str
 unfolding to_value to_bool Inside
