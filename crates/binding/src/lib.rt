@@ -13,6 +13,7 @@ use nodes::Allowed;
 use refusals::Refusal;
 
 // The tree whose last node stands at k, by recursion with falling depth: operands first, the left one before the right, then the operator.
+// It answers the place after its bytes and the offset after the tree itself.
 fn bind_node(
     nodes: &[u64],
     k: usize,
@@ -65,8 +66,10 @@ pub fn bind(
         out.old out.new result }
 {
     check_before(columns, text.len(), used, out.len())?;
+    // of a fixed size, since no call may fail for lack of memory
     let mut table = [0u64; 64];
     let n = forms::scan(Allowed::Named, condition, used, &mut table)?;
+    // of a fixed size, since no call may fail for lack of memory
     let mut space = [0u8; 448];
     let (end, _) = bind_node(&table, n - 1, 16, columns, &text[..used], 0, &mut space, 0)?;
     writing::write_bytes(&space[..end], out)

@@ -16,6 +16,7 @@ fn check_form(b: &[u8], used: usize, from: usize) -> Result<(), Refusal>
     requires { from ≤ 448 }
     ensures { checked_of result ≡ counted_from from (form_stop (parsed Mixed used b.now)) }
 {
+    // of a fixed size, since no call may fail for lack of memory
     let mut table = [0u64; 64];
     match forms::scan(Allowed::Mixed, b, used, &mut table) {
         Ok(_) => Ok(()),
@@ -74,6 +75,7 @@ pub fn with(
     ensures { WithIs (length text.now) used old.now new.now out.old out.new result }
 {
     check_each(old, new, text.len(), used, out.len())?;
+    // of a fixed size, since no call may fail for lack of memory
     let mut whole = [0u8; 897];
     let end = join(old, new, &mut whole);
     check_form(&whole[..end], used, 0)?;

@@ -30,6 +30,7 @@ pub fn check_numbers(b: &[u8], width: usize) -> Result<(), Refusal>
     ensures { checked_of result ≡ numbers_stop width b.now 64 0 }
 {
     let mut at: usize = 0;
+    // at most 64 nodes
     for _ in 0usize..64 {
         if b.len() <= at {
             return Ok(());
@@ -43,7 +44,7 @@ pub fn check_numbers(b: &[u8], width: usize) -> Result<(), Refusal>
     Ok(())
 }
 
-// All that is looked at before evaluation: the table of nodes, or what stops it.
+// All that is looked at before evaluation: the table of nodes and how many there are, or what stops it.
 fn prepare(
     condition: &[u8],
     row: &[u64],
@@ -71,6 +72,7 @@ fn prepare(
 fn walk(condition: &[u8], row: &[u64], text: &mut [u8], used: usize) -> Result<u64, Refusal>
     ensures { EvaluatedIs base condition.now row.now text.old text.new used result }
 {
+    // of a fixed size, since no call may fail for lack of memory
     let mut table = [0u64; 64];
     let n = prepare(condition, row, text.len(), used, &mut table)?;
     match quick::evaluate(

@@ -9,7 +9,7 @@ use nodes::Allowed;
 use operators::Rules;
 use refusals::Refusal;
 
-// All that is looked at before folding: the table of nodes, or what stops it.
+// All that is looked at before folding: the table of nodes and how many there are, or what stops it.
 fn prepare(
     condition: &[u8],
     size: usize,
@@ -35,8 +35,10 @@ pub fn fold(
     ensures { FoldIs (folding base condition.now (take used text.old) (length text.old) used (length out.old))
         (take used text.old) text.new out.old out.new result }
 {
+    // of a fixed size, since no call may fail for lack of memory
     let mut table = [0u64; 64];
     let n = prepare(condition, text.len(), used, out.len(), &mut table)?;
+    // of a fixed size, since no call may fail for lack of memory
     let mut space = [0u8; 448];
     let folded = shortening::fold_node(
         Rules { limit: 1024 },

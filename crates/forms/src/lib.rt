@@ -123,12 +123,14 @@ fn scan_node(
     })
 }
 
-// The whole scan: the table of nodes, or the first refusal.
+// The whole scan: the table of nodes and how many there are, or the first refusal.
 pub fn scan(form: Allowed, b: &[u8], used: usize, nodes: &mut [u64]) -> Result<usize, Refusal>
     requires { length nodes.old ≡ 64 }
     ensures { ScanIs used b.now nodes.new result (parsed form used b.now) }
 {
+    // of a fixed size, since no call may fail for lack of memory
     let mut starts = [0usize; 64];
+    // of a fixed size, since no call may fail for lack of memory
     let mut deeps = [0usize; 64];
     let mut n = 0;
     let mut at = 0;

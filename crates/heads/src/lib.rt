@@ -37,7 +37,7 @@ fn check_sides(
     tables::check_words(left, right, &left[..0], &right[..0], used)
 }
 
-// Both calls, which answer how many words were written, and the new mark: the words are put together in a table of their own, since a refused call leaves the output alone.
+// Both calls, told apart by a truth value as in their definition; they answer how many words were written, and the new mark: the words are put together in a table of their own, since a refused call leaves the output alone.
 fn join_columns(
     nullable: bool,
     left_name: &[u8],
@@ -52,6 +52,7 @@ fn join_columns(
         (length text.old) used (length out.old)) (take used text.old) text.new out.old out.new result }
 {
     check_sides(left_name, left, right_name, right, text.len(), used)?;
+    // of a fixed size, since no call may fail for lack of memory
     let mut words = [0u64; 64];
     let (_, middle) = naming::join_side(left_name, left, false, 0, text, used, &mut words)?;
     let n = left.len() / 2;
@@ -63,7 +64,7 @@ fn join_columns(
     Ok((count, top))
 }
 
-// `inner_join_columns`
+// `inner_join_columns`; C calls this and `left_join_columns` apart, so they stay two.
 pub fn inner_join_columns(
     left_name: &[u8],
     left: &[u64],

@@ -63,8 +63,10 @@ fn write_sorted<'a>(
     requires { SortAsks columns.now stored.now old.now m new.now n out.old }
     ensures { out.new ≡ splice out.old 0 (sorted_words columns.now stored.now old.now m new.now n) }
 {
+    // of a fixed size, since no call may fail for lack of memory
     let mut first = [0usize; 4096];
     arranging::order_rows(columns, stored, old, m, &mut first);
+    // of a fixed size, since no call may fail for lack of memory
     let mut second = [0usize; 4096];
     arranging::order_rows(columns, stored, new, n, &mut second);
     merging::merge_rows(columns, stored, old, m, &first, new, n, &second, out);

@@ -9,7 +9,7 @@ ghost use Rattle.integers.specs.Integer.{int_of, fitted, on_ints, negated, inver
 
 use refusals::Refusal;
 
-// Why an operator has no value. What it has one for is answered as the value's word, with the top of the text after it.
+// Why an operator has no value. Where there is one, the answer is its word and the top of the text after it.
 #[derive(Clone, Copy)]
 pub enum Fault {
     Overflow,

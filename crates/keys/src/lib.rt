@@ -14,7 +14,7 @@ ghost use Rattle.keys.specs.Comparable.{Comparable};
 use refusals::Refusal;
 use std::cmp::Ordering;
 
-// The order of two cells in a column of this rule: Equal where it is no key column.
+// The order of two cells in a column of this rule, by content as `values` tells it, so it is no derive: Equal where it is no key column.
 pub fn compare_column(rule: u64, a: u64, b: u64, stored: &[u8]) -> Ordering
     requires { WellFormed (length stored.now) a × WellFormed (length stored.now) b }
     ensures { result ≡ cond (is_key rule) (order (value_of stored.now a) (value_of stored.now b)) Equal }
@@ -25,7 +25,7 @@ pub fn compare_column(rule: u64, a: u64, b: u64, stored: &[u8]) -> Ordering
     Ordering::Equal
 }
 
-// The order of two checked rows by their key columns, left at the first that isn't Equal.
+// The order of two checked rows by their key columns alone, so it is no `cmp` of slices; left at the first that isn't Equal.
 pub fn compare_keys(columns: &[u64], stored: &[u8], first: &[u64], second: &[u64]) -> Ordering
     requires { Comparable columns.now (length stored.now) first.now second.now }
     ensures { result ≡ key_order columns.now stored.now first.now second.now }

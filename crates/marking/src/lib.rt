@@ -74,6 +74,7 @@ pub fn mark_table(
         (test_of base condition.now used (take used text.old) rows.now width) n used
         text.old text.new marks.old marks.new result }
 {
+    // of a fixed size, since no call may fail for lack of memory
     let mut nodes = [0u64; 64];
     let count = testing::prepare(condition, width, used, &mut nodes)?;
     mark_rows(&nodes, count, rows, width, n, text, used, marks)

@@ -31,7 +31,7 @@ pub fn join_name(table: &[u8], word: u64, text: &mut [u8], top: usize) -> Option
     ))
 }
 
-// A column's rule in the joined table.
+// A column's rule in the joined table; a left join's right side is told by a truth value as in the definition.
 pub fn join_rule(rule: u64, nullable: bool) -> u64
     ensures { result ≡ rule_of nullable rule }
 {
@@ -41,7 +41,7 @@ pub fn join_rule(rule: u64, nullable: bool) -> u64
     rule
 }
 
-// One side's columns, the first of which has this number in the joined table: their names at the top, their words in the joined table's.
+// One side's columns, whose rules are made nullable where a truth value says so, as in the definition; the first has this number in the joined table: their names at the top, their words in the joined table's.
 // It answers how many words there are so far, and the new top.
 pub fn join_side(
     table: &[u8],

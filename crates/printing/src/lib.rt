@@ -43,7 +43,7 @@ fn check_texts(b: &[u8], stored: &[u8]) -> Result<(), Refusal>
     Ok(())
 }
 
-// All that is looked at before the output: the table of nodes, or what stops it.
+// All that is looked at before the output: the table of nodes and how many there are, or what stops it.
 fn prepare(condition: &[u8], text: &[u8], used: usize, nodes: &mut [u64]) -> Result<usize, Refusal>
     requires { length nodes.old ≡ 64 }
     ensures { PreparedIs condition.now (take used text.now) (length text.now) used nodes.new result }
@@ -58,8 +58,10 @@ fn prepare(condition: &[u8], text: &[u8], used: usize, nodes: &mut [u64]) -> Res
 pub fn print(condition: &[u8], text: &[u8], used: usize, out: &mut [u8]) -> Result<usize, Refusal>
     ensures { PrintIs condition.now (take used text.now) (length text.now) used out.old out.new result }
 {
+    // of a fixed size, since no call may fail for lack of memory
     let mut table = [0u64; 64];
     let n = prepare(condition, text, used, &mut table)?;
+    // of a fixed size, since no call may fail for lack of memory
     let mut none = [0u8; 0];
     let needed = spelling::print_node(&table, n - 1, 16, 0, &text[..used], &mut none, 0);
     if out.len() < needed {

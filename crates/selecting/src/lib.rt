@@ -25,6 +25,7 @@ pub fn select(
     let width = columns.len() / 2;
     projecting::check_list(list, width)?;
     let n = rows.len() / width;
+    // of a fixed size, since no call may fail for lack of memory
     let mut marks = [0u64; 4096];
     let k = marking::mark_table(condition, rows, width, n, text, used, &mut marks)?;
     keeping::write_kept(rows, width, n, list, &marks, 1, k, out)
@@ -46,6 +47,7 @@ pub fn delete(
     keeping::check_table(columns, rows, true, condition, text.len(), used)?;
     let width = columns.len() / 2;
     let n = rows.len() / width;
+    // of a fixed size, since no call may fail for lack of memory
     let mut marks = [0u64; 4096];
     let k = marking::mark_table(condition, rows, width, n, text, used, &mut marks)?;
     keeping::write_kept(rows, width, n, &rows[..0], &marks, 0, n - k, out)

@@ -98,12 +98,13 @@ fn run(b: &[u8], row: &[u64], stored: &[u8]) -> Option<u64>
     requires { RowSound (length stored.now) row.now }
     ensures { IfSome result (Ran b.now row.now stored.now) }
 {
+    // of a fixed size, since no call may fail for lack of memory
     let mut stack = [0u64; 16];
     let mut top: u64 = 0;
     let mut n: usize = 0;
     let mut done: usize = 0;
     let mut at: usize = 0;
-    // A `while`: each turn steps by the length of a node.
+    // a while loop, since it steps by a node's length
     while at < b.len() {
         let k = nodes::wide(b[at]);
         if k < 16 {

@@ -77,6 +77,7 @@ pub fn update(
     setting::check_sets(columns, sets, used)?;
     let width = columns.len() / 2;
     let n = rows.len() / width;
+    // of a fixed size, since no call may fail for lack of memory
     let mut marks = [0u64; 4096];
     marking::mark_table(condition, rows, width, n, text, used, &mut marks)?;
     write_all(rows, width, n, sets, &marks, out)

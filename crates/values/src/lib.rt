@@ -23,7 +23,7 @@ pub fn to_bool(value: ValueRef) -> bool
     }
 }
 
-// Value::from_bool
+// Value::from_bool; no `From<bool>`, since `ValueRef` is declared in `cells`.
 pub fn from_bool(boolean: bool) -> ValueRef
     ensures { (stored : List ℕ) → to_value stored result ≡ from_bool boolean }
 {
@@ -34,7 +34,7 @@ pub fn from_bool(boolean: bool) -> ValueRef
     }
 }
 
-// The derived Ord of Value.
+// The derived Ord of Value; written out, since texts are compared by content, which a derive on `ValueRef` doesn't see.
 pub fn compare(a: ValueRef, b: ValueRef, stored: &[u8]) -> Ordering
     requires { Inside (length stored.now) a × Inside (length stored.now) b }
     ensures { result ≡ order (to_value stored.now a) (to_value stored.now b) }
@@ -67,7 +67,7 @@ pub fn compare(a: ValueRef, b: ValueRef, stored: &[u8]) -> Ordering
     }
 }
 
-// The order of two cells by their words. Equal words are equal values, and two Ints need no text.
+// The order of two cells by their words, and of texts by content, so it is no derive. Equal words are equal values, and two Ints need no text.
 pub fn compare_cells(a: u64, b: u64, stored: &[u8]) -> Ordering
     requires { WellFormed (length stored.now) a × WellFormed (length stored.now) b }
     ensures { result ≡ order (value_of stored.now a) (value_of stored.now b) }
@@ -85,7 +85,7 @@ pub fn compare_cells(a: u64, b: u64, stored: &[u8]) -> Ordering
     compare(ValueRef::from(a), ValueRef::from(b), stored)
 }
 
-// Whether two cells are equal. Of two different words only two texts can be.
+// Whether two cells are equal, texts by content, so it is no derive. Of two different words only two texts can be.
 pub fn equal_cells(a: u64, b: u64, stored: &[u8]) -> bool
     requires { WellFormed (length stored.now) a × WellFormed (length stored.now) b }
     ensures { result ≡ is_equal (order (value_of stored.now a) (value_of stored.now b)) }

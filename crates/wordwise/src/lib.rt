@@ -12,7 +12,7 @@ ghost use Rattle.wordwise.specs.Settled.{Settled, on_both, GivesBoth, Ints, IsTw
 
 use operators::Rules;
 
-// A number as an Int's word.
+// A number as an Int's word; not `integers`' own, which tells a fault and hands the top on.
 #[inline(always)]
 fn narrow(z: i64) -> Option<u64>
     ensures { Settled result (fitted z) }
@@ -26,7 +26,7 @@ fn narrow(z: i64) -> Option<u64>
     Some(0x100_0000_0000_0000 + cells::bits(z as i32))
 }
 
-// The number of an Int's word, by one sign extension and no branch.
+// The number of an Int's word, by one sign extension and no branch, which `integers::int_of` has.
 #[inline(always)]
 fn number(word: u64) -> i64
     ensures { result ≡ int_of word }

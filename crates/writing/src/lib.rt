@@ -7,7 +7,7 @@ ghost use Rattle.writing.specs.Writing.{WrittenIs};
 
 use refusals::Refusal;
 
-// Writes bytes at the start of the output.
+// Writes bytes at the start of the output, and answers how many.
 pub fn write_bytes(res: &[u8], out: &mut [u8]) -> Result<usize, Refusal>
     requires { length res.now ≤ length out.old }
     ensures { WrittenIs out.old out.new result never (length res.now) res.now }
