@@ -7,14 +7,15 @@ ghost use Rattle.slices.specs.Bytes.{by_bytes, same_bytes};
 
 use std::cmp::Ordering;
 
-// Copies src into out from the place at on, and returns the place after it.
+// Copies src into out from the place at on, and returns the place after it; by a loop, since `copy_from_slice` would ask `memmove` of whoever links the archive.
 pub fn copy<T: Copy>(src: &[T], out: &mut [T], at: usize) -> usize
     requires { at + length src.now ≤ length out.old }
     ensures { Wrote out.old at src.now result out.new }
 {
-    let end = at + src.len();
-    out[at..end].copy_from_slice(src);
-    end
+    for i in 0..src.len() {
+        out[at + i] = src[i];
+    }
+    at + src.len()
 }
 
 // Copies the n bytes at from to the place to, at or above their end, and returns the place after them.
@@ -26,7 +27,8 @@ pub fn copy_up(text: &mut [u8], from: usize, n: usize, to: usize) -> usize
     to + n
 }
 
-// The order of two texts, byte by byte, a prefix first.
+// The order of two texts, byte by byte, a prefix first. A call of its own: inlined, the library's search would keep the comparing of two Ints from being inlined.
+#[inline(never)]
 pub fn compare_bytes(a: &[u8], b: &[u8]) -> Ordering
     ensures { result ≡ by_bytes a.now b.now }
 {
