@@ -40,6 +40,7 @@ pub fn equal_row(
     ensures { FoundEqual columns.now stored.now rows.now n row.now result }
 {
     let width = columns.len() / 2;
+    let mut found = None;
     'rows: for i in 0..n {
         for column in 0..width {
             let Ordering::Equal = keys::compare_column(
@@ -51,9 +52,10 @@ pub fn equal_row(
                 continue 'rows;
             };
         }
-        return Some(i);
+        found = Some(i);
+        break 'rows;
     }
-    None
+    found
 }
 
 // 14 for the first old row that has the key of an earlier one. Rows that stand in strict order have none, and one pass tells it.

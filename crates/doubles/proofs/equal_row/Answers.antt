@@ -7,7 +7,7 @@ use Rattle.doubles.proofs.Searching.{cell_there, all_equal, passed, next_column}
 use Rattle.doubles.proofs.equal_row.Goals as goal
 
 pub rows-init : goal.rows-init
-rows-init c = below_none _
+rows-init c = (refl, below_none _)
 
 pub loop-column-init : goal.loop-column-init
 loop-column-init c = refl
@@ -49,16 +49,16 @@ compare_column-requires c = (
 )
 
 pub rows-preserved : goal.rows-preserved
-rows-preserved c = passed _ _ _ _ c.requires c.rows-test.true c.loop-column-test.true c.loop-column.invariant _ c.compare_column.ensures c.in_default.not-Equal c.rows.invariant
+rows-preserved c = (c.rows.invariant.0, passed _ _ _ _ c.requires c.rows-test.true c.loop-column-test.true c.loop-column.invariant _ c.compare_column.ensures c.in_default.not-Equal c.rows.invariant.1)
 
 pub loop-column-preserved : goal.loop-column-preserved
 loop-column-preserved c = next_column _ _ _ _ c.requires c.rows-test.true c.loop-column-test.true c.loop-column.invariant _ c.compare_column.ensures c.in-Equal.is
 
-pub returns : goal.returns
-returns c = record { within = omega arith; none_before = λ k l. c.rows.invariant k (omega arith); equal = λ h. absurd (let z : ⊥ = omega arith in z) }
+pub returns-after-rows : goal.returns-after-rows
+returns-after-rows c = rw c.rows.invariant.0 (record { within = omega arith; none_before = λ k l. c.rows.invariant.1 k (omega (arith, c.rows-test.false)); equal = λ h. absurd (let z : ⊥ = omega arith in z) })
 
-pub returns-in-rows : goal.returns-in-rows
-returns-in-rows c = (
-  record { within = omega arith; none_before = c.rows.invariant; equal = λ _. all_equal _ _ _ _ c.requires c.rows-test.true c.loop-column-test.false c.loop-column.invariant },
+pub returns-after-loop-column : goal.returns-after-loop-column
+returns-after-loop-column c = (
+  record { within = omega arith; none_before = c.rows.invariant.1; equal = λ _. all_equal _ _ _ _ c.requires c.rows-test.true c.loop-column-test.false c.loop-column.invariant },
   c.rows-test.true,
 )
