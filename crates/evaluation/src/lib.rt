@@ -69,6 +69,7 @@ fn prepare(
 }
 
 // `evaluate` by the table of nodes, with the rules of the base.
+#[tactic(auto, using(crate::proofs::Whole::faulted))]
 fn walk(condition: &[u8], row: &[u64], text: &mut [u8], used: usize) -> Result<u64, Refusal>
     ensures { EvaluatedIs base condition.now row.now text.old text.new used result }
 {

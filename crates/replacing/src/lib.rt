@@ -23,6 +23,7 @@ pub struct Folded {
 }
 
 // An operator at an offset gives way to its value, written where its operands began.
+#[tactic(auto, using(crate::proofs::Standing::replaced_refused))]
 pub fn replace(
     answer: Result<(u64, usize), Fault>,
     place: usize,

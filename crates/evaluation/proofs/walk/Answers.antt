@@ -1,7 +1,7 @@
 -- `evaluation::walk` meets its contract. Assumes nothing.
 use Rattle.operators.specs.Operator.{base}
 use Rattle.refusals.proofs.First.{at_err}
-use Rattle.evaluation.proofs.Whole.{denied, asks, evaluated, faulted}
+use Rattle.evaluation.proofs.Whole.{denied, asks, evaluated}
 use native.Mathlib.Omega.{arith}
 use Rattle.evaluation.proofs.walk.Goals as goal
 
@@ -13,6 +13,3 @@ evaluate-requires c = asks base (omega arith) _ _ _ (λ i. (c.type_inv.condition
 
 pub returns-in-Ok : goal.returns-in-Ok
 returns-in-Ok c = evaluated base (omega arith) _ _ _ (λ i. (c.type_inv.condition i).fits) _ _ _ c.prepare.auto.nodes c.in_ok-n.ensures _ c.evaluate.auto.text _ _ c.in-Ok.ensures.means c.in-Ok.ensures.lies
-
-pub returns-in-Err : goal.returns-in-Err
-returns-in-Err c = faulted base (omega arith) _ _ _ (λ i. (c.type_inv.condition i).fits) _ _ _ c.prepare.auto.nodes c.in_ok-n.ensures _ c.evaluate.auto.text _ _ c.at.ensures c.in-Err.ensures.means
